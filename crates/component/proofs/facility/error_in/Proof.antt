@@ -1,0 +1,81 @@
+use Rattle.component.specs.Facility.{errorOf}
+use Rattle.component.specs.Facility.{readAs}
+use Rattle.component.specs.Facility.{spells}
+use Rattle.component.specs.Facility.{size}
+use Rattle.component.specs.Facility.{stand}
+use borrow.Author.Tests.{eq-eqb, le-ltb, lt-ltb, ne-eqb}
+use borrow.Author.Needs.{needs}
+use Rattle.component.proofs.facility.error_in.Statement.{statement}
+use Rattle.component.proofs.facility.error_in.Tie as tie
+use Rattle.component.proofs.facility.error_in.Reads as reads
+use Rattle.component.proofs.facility.error_in.Lts as lts
+use Rattle.component.proofs.facility.rejected.Reads as rejected-reads
+
+returns : tie.Need-returns
+unfolding errorOf readAs spells size stand
+returns c = simp (ne-eqb _ _ (c .if1 .taken))
+
+shared-slice-read-head : tie.Need-shared-slice-read-head
+shared-slice-read-head c = search needs
+
+shared-slice-read-head-2 : tie.Need-shared-slice-read-head-2
+shared-slice-read-head-2 c = search needs
+
+shared-slice-read-head-3 : tie.Need-shared-slice-read-head-3
+shared-slice-read-head-3 c = search needs
+
+shared-slice-read-head-4 : tie.Need-shared-slice-read-head-4
+shared-slice-read-head-4 c = search needs
+
+shared-slice-read-head-5 : tie.Need-shared-slice-read-head-5
+shared-slice-read-head-5 c = search needs
+
+shared-slice-read-formed : tie.Need-shared-slice-read-formed
+shared-slice-read-formed c = search needs
+
+shared-slice-read-formed-2 : tie.Need-shared-slice-read-formed-2
+shared-slice-read-formed-2 c = search needs
+
+shared-slice-read-if3 : tie.Need-shared-slice-read-if3
+shared-slice-read-if3 c = search needs
+
+shared-slice-read-rejected : tie.Need-shared-slice-read-rejected
+shared-slice-read-rejected c = search needs
+
+shared-slice-read-rejected-2 : tie.Need-shared-slice-read-rejected-2
+shared-slice-read-rejected-2 c = search needs
+
+rejected-requires : tie.Need-rejected-requires
+rejected-requires c κs = search needs
+
+returns-2 : tie.Need-returns-2
+unfolding errorOf readAs spells size stand
+returns-2 c = simp (c .rejected .ensures, lt-ltb _ _ (c .before .before .before .if3 .taken), c .before .before .before .before .before .if2 .taken, eq-eqb _ _ (c .before .before .before .before .before .before .before .before .before .before .before .before .before .if1 .left))
+
+returns-3 : tie.Need-returns-3
+unfolding errorOf readAs spells size stand
+returns-3 c = simp (le-ltb _ _ (c .if3 .left), c .before .before .if2 .taken, eq-eqb _ _ (c .before .before .before .before .before .before .before .before .before .before .if1 .left))
+
+returns-4 : tie.Need-returns-4
+unfolding errorOf readAs spells size stand
+returns-4 c = simp (c .if2 .left, eq-eqb _ _ (c .before .before .before .before .before .before .before .before .if1 .left))
+
+pub error-in-spec : {M : Type 1} → statement M
+error-in-spec =
+    tie.close
+    (tie.spec
+    returns
+    shared-slice-read-head
+    shared-slice-read-head-2
+    shared-slice-read-head-3
+    shared-slice-read-head-4
+    shared-slice-read-head-5
+    shared-slice-read-formed
+    shared-slice-read-formed-2
+    shared-slice-read-if3
+    shared-slice-read-rejected
+    shared-slice-read-rejected-2
+    rejected-requires
+    returns-2
+    returns-3
+    returns-4)

@@ -1,0 +1,4 @@
+pub mod Room
+pub mod Cause
+pub mod Facility
+pub mod Numbers
