@@ -1,0 +1,7 @@
+pub mod Kind
+pub mod Elements
+pub mod Reading
+pub mod Scan
+pub mod Writing
+pub mod Putting
+pub mod Numbers

@@ -1,0 +1,16 @@
+-- One piece of a message after another. Nobody has to believe this: the writer's contract does not cite it.
+use Prim.Native.Nat.{ℕ, _+_}
+use mathlib.Core.List.{List}
+use mathlib.Core.Path.{_≡_}
+use lib.ListN.{length}
+use Rattle.component.specs.declared.room.Wrote.{Wrote}
+use Rattle.component.specs.Room.{placed}
+
+abbrev pub endOf : Wrote → ℕ
+endOf (Wrote.To n) = n
+endOf (Wrote.Refused b) = 0
+
+-- the buffer l became l' by a piece p at a place, and the piece ends at r
+pub record Put (at : ℕ) (p l l' : List ℕ) (r : ℕ) : Type 0 where
+  pub end : r ≡ at + length p
+  pub octets : l' ≡ placed at p l

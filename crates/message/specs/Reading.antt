@@ -1,0 +1,162 @@
+-- What a message says.
+use Prim.Native.Nat.{ℕ, _+_, _*_, _%_}
+use mathlib.Core.List.{List, [], _∷_}
+use mathlib.Core.Bool.{false, cond}
+use lib.ListN.{length, getD, take, drop}
+use lib.Dec.{ltb, leb, eqb}
+use Rattle.component.specs.declared.cause.Cause.{Cause}
+use Rattle.component.specs.declared.facility.Component.{Component}
+use Rattle.component.specs.declared.facility.Facility.{Facility}
+use Rattle.component.specs.Cause.{causeOf}
+use Rattle.component.specs.Facility.{facilityOf}
+use Rattle.message.specs.declared.kind.Kind.{Kind}
+use Rattle.message.specs.declared.kind.Typed.{Typed}
+use Rattle.message.specs.declared.fields.Width.{Width}
+use Rattle.message.specs.declared.fields.Single.{Single}
+use Rattle.message.specs.declared.fields.Facilities.{Facilities}
+use Rattle.message.specs.declared.fields.Header.{Header}
+use Rattle.message.specs.declared.fields.Place.{Place}
+use Rattle.message.specs.declared.reader.Reading.{Reading}
+use Rattle.message.specs.declared.reader.Fault.{Fault}
+use Rattle.message.specs.declared.reader.Read.{Read}
+use Rattle.message.specs.Kind.{kindOf}
+use Rattle.message.specs.Elements.{Element, Split, cut, whole, elements, counted}
+
+-- "More data belongs to USER INFORMATION only"
+abbrev pub moreIn : Kind → Single
+moreIn Kind.Alerting = Single.Absent
+moreIn Kind.CallProceeding = Single.Absent
+moreIn Kind.Setup = Single.Absent
+moreIn Kind.Connect = Single.Absent
+moreIn Kind.UserInformation = Single.MoreData
+moreIn Kind.Disconnect = Single.Absent
+moreIn Kind.ReleaseComplete = Single.Absent
+moreIn Kind.Facility = Single.Absent
+moreIn Kind.CongestionControl = Single.Absent
+
+-- "and a congestion level to CONGESTION CONTROL; elsewhere the reader passes them over"
+abbrev pub levelIn : Kind → Single → Single
+levelIn Kind.Alerting s = Single.Absent
+levelIn Kind.CallProceeding s = Single.Absent
+levelIn Kind.Setup s = Single.Absent
+levelIn Kind.Connect s = Single.Absent
+levelIn Kind.UserInformation s = Single.Absent
+levelIn Kind.Disconnect s = Single.Absent
+levelIn Kind.ReleaseComplete s = Single.Absent
+levelIn Kind.Facility s = Single.Absent
+levelIn Kind.CongestionControl s = s
+
+-- "More data A0, Congestion level B0 (ready) and BF (not ready)"
+unfoldable pub singleOf : Kind → ℕ → Single
+singleOf k x =
+    cond (eqb x 0xA0) (moreIn k)
+    (cond (eqb x 0xB0) (levelIn k Single.Ready)
+    (cond (eqb x 0xBF) (levelIn k Single.NotReady) Single.Absent))
+
+abbrev pub orSingle : Single → Single → Single
+orSingle Single.Absent s = s
+orSingle Single.MoreData s = Single.MoreData
+orSingle Single.Ready s = Single.Ready
+orSingle Single.NotReady s = Single.NotReady
+
+-- "The first Cause and level count."
+unfoldable pub firstSingle : Kind → List Element → Single
+firstSingle k [] = Single.Absent
+firstSingle k (e ∷ es) = orSingle (singleOf k (e .id)) (firstSingle k es)
+
+unfoldable pub firstCause : List Element → Cause
+firstCause [] = Cause.Absent
+firstCause (e ∷ es) = cond (eqb (e .id) 0x08) (causeOf (e .body)) (firstCause es)
+
+-- "The first User-user element counts": where it starts, and how many octets it has with its first two
+unfoldable pub firstPlace : List Element → Place
+firstPlace [] = Place.Absent
+firstPlace (e ∷ es) = cond (eqb (e .id) 0x7E) (Place.At (e .at) (length (e .body) + 2)) (firstPlace es)
+
+-- what the Facility elements say that can be read, in order
+abbrev pub andSays : Facility → List Component → List Component
+andSays Facility.Absent cs = cs
+andSays (Facility.Says c) cs = c ∷ cs
+
+unfoldable pub components : List Element → List Component
+components [] = []
+components (e ∷ es) = cond (eqb (e .id) 0x1C) (andSays (facilityOf (e .body)) (components es)) (components es)
+
+-- "and the first three Facility elements in order"
+abbrev pub firstThree : List Component → Facilities
+firstThree [] = Facilities.Zero
+firstThree (a ∷ []) = Facilities.One a
+firstThree (a ∷ b ∷ []) = Facilities.Two a b
+firstThree (a ∷ b ∷ c ∷ cs) = Facilities.Three a b c
+
+-- a header and the elements that count
+unfoldable pub readingOf : Header → List Element → Reading
+readingOf h es =
+    record {
+      message =
+          record {
+            header = h;
+            single = firstSingle (h .kind) es;
+            cause = firstCause es;
+            facility = firstThree (components es);
+          };
+      user = firstPlace es;
+    }
+
+unfoldable pub takenOf : Header → Split → Read
+takenOf h cut = Read.Refused Fault.Short
+takenOf h (whole es) = Read.Taken (readingOf h (counted false es))
+
+-- "the reference length (1 or 2)"
+abbrev pub widthOf : Width → ℕ
+widthOf Width.One = 1
+widthOf Width.Two = 2
+
+-- "the reference (its top bit is the flag, given back apart)": of its octet a, or of its octets a and b
+abbrev pub referenceOf : Width → ℕ → ℕ → ℕ
+referenceOf Width.One a b = a % 128
+referenceOf Width.Two a b = a % 128 * 256 + b
+
+abbrev pub headerOf : Width → List ℕ → Kind → Header
+headerOf w m k =
+    record {
+      width = w;
+      flag = leb 0x80 (getD m 2 0);
+      reference = referenceOf w (getD m 2 0) (getD m 3 0);
+      kind = k;
+    }
+
+abbrev pub typedOf : Width → List ℕ → Typed → Read
+typedOf w m Typed.Unknown = Read.Refused Fault.Kind
+typedOf w m (Typed.Known k) = takenOf (headerOf w m k) (elements (widthOf w + 3) 0 (drop (widthOf w + 3) m))
+
+-- the reference, the type, the elements
+unfoldable pub headedOf : Width → List ℕ → Read
+headedOf w m =
+    cond (ltb (length m) (widthOf w + 3)) (Read.Refused Fault.Short)
+    (typedOf w m (kindOf (getD m (widthOf w + 2) 0)))
+
+-- "A message is 08, the reference length (1 or 2), the reference, the type, the elements."
+-- "Reading gives 2 first, then the first fault from left to right."
+unfoldable pub readOf : List ℕ → Read
+readOf m =
+    cond (ltb 260 (length m)) (Read.Refused Fault.TooLong)
+    (cond (ltb (length m) 1) (Read.Refused Fault.Short)
+    (cond (eqb (getD m 0 0) 8)
+    (cond (ltb (length m) 2) (Read.Refused Fault.Short)
+    (cond (eqb (getD m 1 0) 1) (headedOf Width.One m)
+    (cond (eqb (getD m 1 0) 2) (headedOf Width.Two m) (Read.Refused Fault.Reference))))
+    (Read.Refused Fault.Foreign)))
+
+-- the octets at a place; none where the place does not lie in the message
+abbrev pub partOf : List ℕ → Place → List ℕ
+partOf m Place.Absent = []
+partOf m (Place.At p n) = cond (leb (p + n) (length m)) (take n (drop p m)) []
+
+abbrev pub placeIn : Read → Place
+placeIn (Read.Taken r) = r .user
+placeIn (Read.Refused f) = Place.Absent
+
+-- "The reader gives back the whole user-user element as the very part of the caller's message."
+unfoldable pub userUserOf : List ℕ → List ℕ
+userUserOf m = partOf m (placeIn (readOf m))

@@ -1,0 +1,396 @@
+// Reads a message: one pass over its octets, and no octet of it is copied.
+ghost use mathlib.Core.Path.{_≡_};
+ghost use Prim.Native.Nat.{_<_, _≤_, _+_};
+ghost use lib.ListN.{length, getD, drop};
+ghost use Rattle.message.specs.Elements.{Ends, between, elements};
+ghost use Rattle.message.specs.Reading.{widthOf, referenceOf, singleOf, moreIn, levelIn, takenOf, headedOf, readOf, partOf, userUserOf};
+ghost use Rattle.message.specs.Scan.{noteCause, noteFacility, notePlace, noteSingle, Adds, causeSeen, takenWith};
+use crate::fields::Facilities;
+use crate::fields::Header;
+use crate::fields::Message;
+use crate::fields::Place;
+use crate::fields::Single;
+use crate::fields::Width;
+use crate::kind::Kind;
+use crate::kind::Typed;
+use crate::kind::kind_in;
+use component::cause::Cause;
+use component::cause::cause_in;
+use component::facility::Facility;
+use component::facility::facility_in;
+
+pub struct Reading {
+    pub message: Message,
+    pub user: Place,
+}
+
+// Why a message is refused: it ends too early, is too long, begins with another protocol's octet, or has a reference length or
+// a type that is none of ours.
+pub enum Fault {
+    Short,
+    TooLong,
+    Foreign,
+    Reference,
+    Kind,
+}
+
+pub enum Read {
+    Taken(Reading),
+    Refused(Fault),
+}
+
+// Where the element at a place ends, if it does.
+enum End {
+    To(usize),
+    Cut,
+}
+
+// Whether a Cause element was met, and what the first one says.
+enum Seen {
+    Unseen,
+    First(Cause),
+}
+
+// What the scan has found so far.
+struct Found {
+    single: Single,
+    cause: Seen,
+    facility: Facilities,
+    user: Place,
+}
+
+fn wide(x: u8) -> usize
+    ensures { λ r. ⌜ r ≡ x ⌝ }
+{
+    x as usize
+}
+
+fn wide16(x: u8) -> u16
+    ensures { λ r. ⌜ (r ≡ x) × (r < 256) ⌝ }
+{
+    x as u16
+}
+
+fn end_of(m: &[u8], i: usize) -> End
+    requires { ⌜ i < length (now m) ⌝ }
+    ensures { λ r. ⌜ Ends (now (m .entry)) i r ⌝ }
+{
+    if m[i] >= 0x80 {
+        return End::To(i + 1);
+    }
+    if m.len() - i < 2 {
+        return End::Cut;
+    }
+    let n = wide(m[i + 1]);
+    if m.len() - i - 2 < n {
+        return End::Cut;
+    }
+    End::To(i + 2 + n)
+}
+
+fn first_cause(c: Seen, body: &[u8]) -> Seen
+    ensures { λ r. ⌜ r ≡ noteCause c (now (body .entry)) ⌝ }
+{
+    match c {
+        Seen::Unseen => Seen::First(cause_in(body)),
+        Seen::First(v) => Seen::First(v),
+    }
+}
+
+fn with_facility(f: Facilities, new: Facility) -> Facilities
+    ensures { λ r. ⌜ r ≡ noteFacility f new ⌝ }
+{
+    match new {
+        Facility::Absent => f,
+        Facility::Says(n) => match f {
+            Facilities::Zero => Facilities::One(n),
+            Facilities::One(a) => Facilities::Two(a, n),
+            Facilities::Two(a, b) => Facilities::Three(a, b, n),
+            Facilities::Three(a, b, c) => Facilities::Three(a, b, c),
+        },
+    }
+}
+
+fn first_place(p: Place, i: usize, n: usize) -> Place
+    ensures { λ r. ⌜ r ≡ notePlace p i n ⌝ }
+{
+    match p {
+        Place::Absent => Place::At(i, n),
+        Place::At(j, k) => Place::At(j, k),
+    }
+}
+
+// More data belongs to USER INFORMATION only.
+fn more_in(k: Kind) -> Single
+    ensures { λ r. ⌜ r ≡ moreIn k ⌝ }
+{
+    match k {
+        Kind::Alerting => Single::Absent,
+        Kind::CallProceeding => Single::Absent,
+        Kind::Setup => Single::Absent,
+        Kind::Connect => Single::Absent,
+        Kind::UserInformation => Single::MoreData,
+        Kind::Disconnect => Single::Absent,
+        Kind::ReleaseComplete => Single::Absent,
+        Kind::Facility => Single::Absent,
+        Kind::CongestionControl => Single::Absent,
+    }
+}
+
+// A congestion level belongs to CONGESTION CONTROL only.
+fn level_in(k: Kind, level: Single) -> Single
+    ensures { λ r. ⌜ r ≡ levelIn k level ⌝ }
+{
+    match k {
+        Kind::Alerting => Single::Absent,
+        Kind::CallProceeding => Single::Absent,
+        Kind::Setup => Single::Absent,
+        Kind::Connect => Single::Absent,
+        Kind::UserInformation => Single::Absent,
+        Kind::Disconnect => Single::Absent,
+        Kind::ReleaseComplete => Single::Absent,
+        Kind::Facility => Single::Absent,
+        Kind::CongestionControl => level,
+    }
+}
+
+// What a single octet says in a message of this kind.
+fn single_in(k: Kind, x: u8) -> Single
+    ensures { λ r. ⌜ r ≡ singleOf k x ⌝ }
+{
+    match x {
+        0xA0 => more_in(k),
+        0xB0 => level_in(k, Single::Ready),
+        0xBF => level_in(k, Single::NotReady),
+        _ => Single::Absent,
+    }
+}
+
+fn first_single(s: Single, new: Single) -> Single
+    ensures { λ r. ⌜ r ≡ noteSingle s new ⌝ }
+{
+    match s {
+        Single::Absent => new,
+        Single::MoreData => Single::MoreData,
+        Single::Ready => Single::Ready,
+        Single::NotReady => Single::NotReady,
+    }
+}
+
+// What the element of m from i to e adds to what was found.
+fn note(h: Header, f: Found, m: &[u8], i: usize, e: usize) -> Found
+    requires { ⌜ (i < e) × (e ≤ length (now m)) × (getD (now m) i 0 < 128 → i + 2 ≤ e) ⌝ }
+    ensures { λ r. ⌜ Adds h f (between (now (m .entry)) i e) r ⌝ }
+{
+    let kind = h.kind;
+    let single = f.single;
+    let cause = f.cause;
+    let facility = f.facility;
+    let user = f.user;
+    let x = m[i];
+    match x {
+        0x08 => Found {
+            single: single,
+            cause: first_cause(cause, &m[i + 2..e]),
+            facility: facility,
+            user: user,
+        },
+        0x1C => Found {
+            single: single,
+            cause: cause,
+            facility: with_facility(facility, facility_in(&m[i + 2..e])),
+            user: user,
+        },
+        0x7E => Found {
+            single: single,
+            cause: cause,
+            facility: facility,
+            user: first_place(user, i, e - i),
+        },
+        _ => Found {
+            single: first_single(single, single_in(kind, x)),
+            cause: cause,
+            facility: facility,
+            user: user,
+        },
+    }
+}
+
+fn cause_seen(c: Seen) -> Cause
+    ensures { λ r. ⌜ r ≡ causeSeen c ⌝ }
+{
+    match c {
+        Seen::Unseen => Cause::Absent,
+        Seen::First(v) => v,
+    }
+}
+
+// The fields that were found, with what the header says.
+fn taken(h: Header, f: Found) -> Read
+    ensures { λ r. ⌜ r ≡ takenWith h f ⌝ }
+{
+    let single = f.single;
+    let cause = f.cause;
+    let facility = f.facility;
+    let user = f.user;
+    let message = Message {
+        header: h,
+        single: single,
+        cause: cause_seen(cause),
+        facility: facility,
+    };
+    Read::Taken(Reading {
+        message: message,
+        user: user,
+    })
+}
+
+// The elements from a place on. A locking shift ends the search; the lengths after it are still checked.
+fn scan(m: &[u8], start: usize, h: Header) -> Read
+    ensures { λ r. ⌜ r ≡ takenOf h (elements start 0 (drop start (now (m .entry)))) ⌝ }
+{
+    let mut i = start;
+    let mut pass = false;
+    let mut f = Found {
+        single: Single::Absent,
+        cause: Seen::Unseen,
+        facility: Facilities::Zero,
+        user: Place::Absent,
+    };
+    'scan: while i < m.len() {
+        match end_of(m, i) {
+            End::Cut => {
+                return Read::Refused(Fault::Short);
+            }
+            End::To(e) => {
+                if pass {
+                    pass = false;
+                    i = e;
+                } else {
+                    let x = m[i];
+                    match x {
+                        0x90..=0x97 => {
+                            i = e;
+                            break 'scan;
+                        }
+                        0x98..=0x9F => {
+                            pass = true;
+                            i = e;
+                        }
+                        _ => {
+                            f = note(h, f, m, i, e);
+                            i = e;
+                        }
+                    }
+                }
+            }
+        }
+    }
+    'rest: while i < m.len() {
+        match end_of(m, i) {
+            End::Cut => {
+                return Read::Refused(Fault::Short);
+            }
+            End::To(e) => {
+                i = e;
+            }
+        }
+    }
+    taken(h, f)
+}
+
+fn width_size(w: Width) -> usize
+    ensures { λ r. ⌜ (r ≡ widthOf w) × (1 ≤ r) × (r ≤ 2) ⌝ }
+{
+    match w {
+        Width::One => 1,
+        Width::Two => 2,
+    }
+}
+
+// The reference without its flag: of its one octet a, or of its two octets a and b.
+fn reference(w: Width, a: u8, b: u8) -> u16
+    ensures { λ r. ⌜ r ≡ referenceOf w a b ⌝ }
+{
+    match w {
+        Width::One => wide16(a) % 128,
+        Width::Two => wide16(a) % 128 * 256 + wide16(b),
+    }
+}
+
+// The rest of the header, and the elements, where the reference has this many octets.
+fn headed(m: &[u8], w: Width) -> Read
+    ensures { λ r. ⌜ r ≡ headedOf w (now (m .entry)) ⌝ }
+{
+    let n = width_size(w);
+    if m.len() < n + 3 {
+        return Read::Refused(Fault::Short);
+    }
+    match kind_in(m[n + 2]) {
+        Typed::Unknown => Read::Refused(Fault::Kind),
+        Typed::Known(k) => {
+            let h = Header {
+                width: w,
+                flag: m[2] >= 0x80,
+                reference: reference(w, m[2], m[3]),
+                kind: k,
+            };
+            scan(m, n + 3, h)
+        }
+    }
+}
+
+pub fn read_message(m: &[u8]) -> Read
+    ensures { λ r. ⌜ r ≡ readOf (now (m .entry)) ⌝ }
+{
+    if m.len() > 260 {
+        return Read::Refused(Fault::TooLong);
+    }
+    if m.len() < 1 {
+        return Read::Refused(Fault::Short);
+    }
+    if m[0] != 8 {
+        return Read::Refused(Fault::Foreign);
+    }
+    if m.len() < 2 {
+        return Read::Refused(Fault::Short);
+    }
+    let n = m[1];
+    match n {
+        1 => headed(m, Width::One),
+        2 => headed(m, Width::Two),
+        _ => Read::Refused(Fault::Reference),
+    }
+}
+
+// The octets of a message at a place; none where the place does not lie in it.
+pub fn part<'a>(m: &'a [u8], place: Place) -> &'a [u8]
+    ensures { λ r. ⌜ now r ≡ partOf (now (m .entry)) place ⌝ }
+{
+    match place {
+        Place::Absent => &m[0..0],
+        Place::At(p, n) => {
+            if p > m.len() {
+                return &m[0..0];
+            }
+            if m.len() - p < n {
+                return &m[0..0];
+            }
+            let e = p + n;
+            &m[p..e]
+        }
+    }
+}
+
+// The whole user-user element, as the very part of the message; empty where there is none or the message is refused.
+pub fn user_user<'a>(m: &'a [u8]) -> &'a [u8]
+    ensures { λ r. ⌜ now r ≡ userUserOf (now (m .entry)) ⌝ }
+{
+    match read_message(m) {
+        Read::Refused(_) => &m[0..0],
+        Read::Taken(r) => {
+            let user = r.user;
+            part(m, user)
+        }
+    }
+}
