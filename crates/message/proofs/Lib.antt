@@ -1,0 +1,7 @@
+pub mod Splitting
+pub mod Noting
+pub mod Turns
+pub mod Heading
+pub mod Lying
+pub mod Pieces
+pub mod Ranges

@@ -1,0 +1,29 @@
+-- A message whose reference has a known number of octets.
+use Prim.Native.Nat.{ℕ, _+_, _<_, _≤_}
+use mathlib.Core.List.{List}
+use mathlib.Core.Path.{_≡_, refl, sym, ap, _∙_}
+use borrow.Author.Tests.{lt-ltb, le-ltb}
+use lib.ListN.{length, getD, drop}
+use Rattle.message.specs.declared.kind.Kind.{Kind}
+use Rattle.message.specs.declared.kind.Typed.{Typed}
+use Rattle.message.specs.declared.fields.Width.{Width}
+use Rattle.message.specs.declared.reader.Fault.{Fault}
+use Rattle.message.specs.declared.reader.Read.{Read}
+use Rattle.message.specs.Kind.{kindOf}
+use Rattle.message.specs.Elements.{elements}
+use Rattle.message.specs.Reading.{widthOf, headerOf, takenOf, typedOf, headedOf}
+
+module _ (w : Width) (m : List ℕ) where
+  pub headed-short : length m < widthOf w + 3 → Read.Refused Fault.Short ≡ headedOf w m
+  unfolding headedOf
+  headed-short h = simp (lt-ltb _ _ h)
+
+  pub headed-typed : widthOf w + 3 ≤ length m → headedOf w m ≡ typedOf w m (kindOf (getD m (widthOf w + 2) 0))
+  unfolding headedOf
+  headed-typed h = simp (le-ltb _ _ h)
+
+  pub headed-unknown : widthOf w + 3 ≤ length m → kindOf (getD m (widthOf w + 2) 0) ≡ Typed.Unknown → Read.Refused Fault.Kind ≡ headedOf w m
+  headed-unknown h e = sym (headed-typed h ∙ ap (typedOf w m) e)
+
+  pub headed-known : (k : Kind) → widthOf w + 3 ≤ length m → kindOf (getD m (widthOf w + 2) 0) ≡ Typed.Known k → takenOf (headerOf w m k) (elements (widthOf w + 3) 0 (drop (widthOf w + 3) m)) ≡ headedOf w m
+  headed-known k h e = sym (headed-typed h ∙ ap (typedOf w m) e)

@@ -1,0 +1,15 @@
+use borrow.Author.Needs.{needs}
+use Rattle.message.proofs.reader.taken.Statement.{statement}
+use Rattle.message.proofs.reader.taken.Tie as tie
+use Rattle.message.proofs.reader.taken.Reads as reads
+use Rattle.message.proofs.reader.taken.Lts as lts
+use Rattle.message.proofs.reader.cause_seen.Reads as cause-seen-reads
+
+cause-seen-requires : tie.Need-cause-seen-requires
+cause-seen-requires c κs = search needs
+
+returns : tie.Need-returns
+returns c = simp (c .cause-seen .ensures)
+
+pub taken-spec : {M : Type 1} → statement M
+taken-spec = tie.close (tie.spec cause-seen-requires returns)
