@@ -5,3 +5,9 @@ pub mod Heading
 pub mod Lying
 pub mod Pieces
 pub mod Ranges
+pub mod Cases
+pub mod Table
+pub mod Whole
+pub mod Range
+pub mod Trip
+pub mod Promises

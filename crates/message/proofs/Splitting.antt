@@ -17,7 +17,7 @@ skip p q (suc k) [] e h = absurd (omega arith)
 skip p q (suc k) (x ∷ xs) e h = skip (suc p) q k xs (omega arith) (omega arith)
 
 -- past k octets that are not all there
-short : (p k : ℕ) (l : List ℕ) → length l < k → elements p k l ≡ cut
+pub short : (p k : ℕ) (l : List ℕ) → length l < k → elements p k l ≡ cut
 unfolding elements
 short p zero l h = absurd (omega arith)
 short p (suc k) [] h = refl

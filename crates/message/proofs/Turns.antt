@@ -69,7 +69,7 @@ place-end : (p : Place) → placeThen p Place.Absent ≡ p
 place-end Place.Absent = refl
 place-end (Place.At i n) = refl
 
-at-last : (h : Header) (f : Found) → Read.Taken (readingFrom h f []) ≡ takenWith h f
+pub at-last : (h : Header) (f : Found) → Read.Taken (readingFrom h f []) ≡ takenWith h f
 unfolding readingFrom firstSingle firstCause firstPlace components
 at-last h f = simp (single-end (f .single), cause-end (f .cause), append-nil (listed (f .facility)), facility-end (f .facility), place-end (f .user))
 

@@ -5,3 +5,4 @@ pub mod Scan
 pub mod Writing
 pub mod Putting
 pub mod Numbers
+pub mod Promises
