@@ -1,3 +1,4 @@
 pub mod Outcome
 pub mod Forms
 pub mod Back
+pub mod Pieces

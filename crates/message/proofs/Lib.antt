@@ -3,7 +3,6 @@ pub mod Noting
 pub mod Turns
 pub mod Heading
 pub mod Lying
-pub mod Pieces
 pub mod Ranges
 pub mod Cases
 pub mod Table

@@ -3,6 +3,5 @@ pub mod Elements
 pub mod Reading
 pub mod Scan
 pub mod Writing
-pub mod Putting
 pub mod Numbers
 pub mod Promises

@@ -6,7 +6,7 @@ ghost use lib.ListN.{length};
 ghost use Rattle.component.specs.Room.{Written};
 ghost use Rattle.component.specs.Facility.{componentFits, facilityOctets};
 ghost use Rattle.message.specs.Writing.{topOf, headerOctets, headerSize, singleOctets, causesOctets, facilitiesOctets, frontOctets, messageOctets, referenceFits, plainFits, moreFits, levelFits, singleFits, causesFit, facilitiesFit, userFits, messageFits};
-ghost use Rattle.message.specs.Putting.{endOf, Put};
+ghost use Rattle.component.specs.Putting.{endOf, Put};
 use crate::fields::Facilities;
 use crate::fields::Header;
 use crate::fields::Message;

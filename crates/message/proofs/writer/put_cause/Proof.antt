@@ -1,4 +1,4 @@
-use Rattle.message.proofs.Pieces.{no-put, settles}
+use Rattle.component.proofs.Pieces.{no-put, settles}
 use borrow.Author.Needs.{needs}
 use Rattle.message.proofs.writer.put_cause.Statement.{statement}
 use Rattle.message.proofs.writer.put_cause.Tie as tie

@@ -1,4 +1,4 @@
-use Rattle.message.proofs.Pieces.{settles}
+use Rattle.component.proofs.Pieces.{settles}
 use borrow.Author.Needs.{needs}
 use Rattle.message.proofs.writer.put_component.Statement.{statement}
 use Rattle.message.proofs.writer.put_component.Tie as tie

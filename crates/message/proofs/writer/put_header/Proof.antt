@@ -1,6 +1,6 @@
 use mathlib.Core.Path.{refl}
 use native.Mathlib.Omega.{arith}
-use Rattle.message.proofs.Pieces.{settles}
+use Rattle.component.proofs.Pieces.{settles}
 use borrow.Author.Needs.{needs}
 use Rattle.message.proofs.writer.put_header.Statement.{statement}
 use Rattle.message.proofs.writer.put_header.Tie as tie

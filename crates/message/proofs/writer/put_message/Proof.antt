@@ -1,7 +1,7 @@
 use mathlib.Core.Path.{refl}
 use native.Mathlib.Omega.{arith}
 use Rattle.message.specs.Writing.{frontOctets, messageOctets}
-use Rattle.message.proofs.Pieces.{five-puts, settles}
+use Rattle.component.proofs.Pieces.{five-puts, settles}
 use Rattle.message.proofs.Ranges.{fits, size-is}
 use borrow.Author.Needs.{needs}
 use Rattle.message.proofs.writer.put_message.Statement.{statement}

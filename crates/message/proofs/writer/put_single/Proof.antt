@@ -1,6 +1,6 @@
 use mathlib.Core.Path.{refl}
 use native.Mathlib.Omega.{arith}
-use Rattle.message.proofs.Pieces.{no-put, settles}
+use Rattle.component.proofs.Pieces.{no-put, settles}
 use borrow.Author.Needs.{needs}
 use Rattle.message.proofs.writer.put_single.Statement.{statement}
 use Rattle.message.proofs.writer.put_single.Tie as tie

@@ -8,9 +8,9 @@ use native.Mathlib.Nat.{add-assoc}
 use borrow.Author.Tests.{le-leb}
 use lib.ListN.{length, take, drop, length-append, length-drop}
 use lib.Seq.{length-take-le, take-at, drop-append-add, drop-drop, paste-zero}
 use Rattle.component.specs.declared.room.Wrote.{Wrote}
 use Rattle.component.specs.Room.{placed, wroteOf, leftOf, Written}
-use Rattle.message.specs.Putting.{endOf, Put}
+use Rattle.component.specs.Putting.{endOf, Put}
 
 module _ (at : ℕ) (p l : List ℕ) (fits : at + length p ≤ length l) where
   front : length (take at l ++ p) ≡ at + length p

@@ -1,10 +1,10 @@
--- One piece of a message after another. Nobody has to believe this: the writer's contract does not cite it.
+-- One piece after another, for whoever writes several. Nobody has to believe this: no public contract cites it.
 use Prim.Native.Nat.{ℕ, _+_}
 use mathlib.Core.List.{List}
 use mathlib.Core.Path.{_≡_}
 use lib.ListN.{length}
 use Rattle.component.specs.declared.room.Wrote.{Wrote}
 use Rattle.component.specs.Room.{placed}
 
 abbrev pub endOf : Wrote → ℕ
 endOf (Wrote.To n) = n
