@@ -1,0 +1,25 @@
+use Rattle.call.specs.Tick.{tickOf}
+use borrow.Author.Needs.{needs}
+use Rattle.call.proofs.Call.tick.Statement.{statement}
+use Rattle.call.proofs.Call.tick.Tie as tie
+
+is-live-requires : tie.Need-is-live-requires
+is-live-requires c κs = search needs
+
+barred-requires : tie.Need-barred-requires
+barred-requires c κs = search needs
+
+passes-tick-requires : tie.Need-passes-tick-requires
+passes-tick-requires c κs = search needs
+
+heard-requires : tie.Need-heard-requires
+heard-requires c κs = search needs
+
+returns : tie.Need-returns
+unfolding tickOf
+returns c = simp (c .heard .ensures, c .before .passes-tick .ensures, c .before .before .barred .ensures, c .before .before .before .is-live .ensures)
+
+pub tick-spec : {M : Type 1} → statement M
+tick-spec =
+    tie.close
+    (tie.spec is-live-requires barred-requires passes-tick-requires heard-requires returns)

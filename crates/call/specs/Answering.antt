@@ -1,0 +1,106 @@
+-- ALERTING and CONNECT.
+use Prim.Native.Nat.{ℕ}
+use mathlib.Core.List.{List}
+use mathlib.Core.Bool.{Bool, true, false, cond, not}
+use Rattle.service.specs.declared.cause.Cause.{Cause}
+use Rattle.service.specs.declared.element.Seen.{Seen}
+use Rattle.service.specs.declared.standing.Answers.{Answers}
+use Rattle.service.specs.declared.standing.Fate.{Fate}
+use Rattle.service.specs.declared.standing.Fates.{Fates}
+use Rattle.service.specs.declared.standing.Given.{Given}
+use Rattle.service.specs.declared.standing.Standings.{Standings}
+use Rattle.rules.specs.declared.answer.Answer.{Answer}
+use Rattle.rules.specs.declared.message.Kind.{Kind}
+use Rattle.rules.specs.declared.message.Sent.{Sent}
+use Rattle.rules.specs.declared.phase.Phase.{Phase}
+use Rattle.call.specs.declared.Call.{Call}
+use Rattle.call.specs.declared.Meters.{Meters}
+use Rattle.call.specs.declared.reply.Reply.{Reply}
+use Rattle.meter.specs.Meter.{grantedOf}
+use Rattle.service.specs.Standing.{inForceOf, decidedOf, failedOf, settlesOf, tellsOf, declinesOf}
+use Rattle.service.specs.Cause.{cleared}
+use Rattle.service.specs.Element.{seenOf, notedOf, goesOutOf}
+use Rattle.rules.specs.Message.{sayingOf, bareOf}
+use Rattle.rules.specs.Phase.{requestedOf, connectableOf}
+use Rattle.call.specs.Sound.{inPhaseOf}
+use Rattle.call.specs.Reply.{barOf, heardOf}
+
+-- "Coming into force, service 3 gives each direction X credits"
+unfoldable pub grantsOf : Meters → ℕ → Meters
+grantsOf m burst = record { calling = grantedOf (m .calling) burst; called = grantedOf (m .called) burst }
+
+abbrev pub inForceAfterOf : Meters → ℕ → Fate → Meters
+inForceAfterOf m burst Fate.Kept = m
+inForceAfterOf m burst Fate.Accepted = grantsOf m burst
+inForceAfterOf m burst Fate.Closed = m
+inForceAfterOf m burst (Fate.Failed n) = m
+
+-- the record in its next phase, with what the answers made of the services
+unfoldable pub answeredCallOf : Call → Phase → Fates → Call
+answeredCallOf c next f =
+    record {
+      reference = c .reference;
+      rights = c .rights;
+      phase = next;
+      standings = settlesOf (c .standings) f;
+      asking = c .asking;
+      meters = inForceAfterOf (c .meters) (c .rights .burst) (f .three);
+    }
+
+-- "Otherwise the message goes on with these answers, and its element if service 1 is in force."
+unfoldable pub goesOnOf : Call → Kind → Phase → Fates → Seen → Reply
+goesOnOf c kind next f seen =
+    record {
+      call = answeredCallOf c next f;
+      answer = Answer.Taken;
+      note = notedOf seen (inForceOf (answeredCallOf c next f .standings .one));
+      calling = sayingOf kind Cause.Absent (tellsOf f) (goesOutOf seen (inForceOf (answeredCallOf c next f .standings .one)));
+      called = Sent.Absent;
+    }
+
+-- "Required and not accepted: DISCONNECT to the caller with rejectedByUser for each due service not accepted, and to the called user with cause 31;
+-- Clearing." The message is not carried on, and so its element is not.
+unfoldable pub clearsOf : Call → ℕ → Fates → Seen → Reply
+clearsOf c cause f seen =
+    record {
+      call = inPhaseOf c Phase.Clearing;
+      answer = Answer.Taken;
+      note = notedOf seen false;
+      calling = sayingOf Kind.Disconnect (Cause.Value cause) (declinesOf f) false;
+      called = bareOf Kind.Disconnect (Cause.Value cleared);
+    }
+
+-- the cause is that of a failure, if there is one
+abbrev pub outcomeOf : Call → Kind → Phase → Fates → Seen → Cause → Reply
+outcomeOf c kind next f seen Cause.Absent = goesOnOf c kind next f seen
+outcomeOf c kind next f seen (Cause.Value n) = clearsOf c n f seen
+
+-- ALERTING: "Answers to 1 and 2 are due." "Answers not due .. are ignored".
+unfoldable pub alertingFatesOf : Standings → Answers → Fates
+alertingFatesOf s a =
+    record { one = decidedOf (s .one) (a .one); two = decidedOf (s .two) (a .two); three = Fate.Kept }
+
+-- CONNECT: "The answer to 3 is due, and to 1 if no ALERTING came; service 2 without ALERTING counts as unanswered."
+unfoldable pub connectFatesOf : Bool → Standings → Answers → Fates
+connectFatesOf alerted s a =
+    record {
+      one = cond alerted Fate.Kept (decidedOf (s .one) (a .one));
+      two = cond alerted Fate.Kept (decidedOf (s .two) Given.Silent);
+      three = decidedOf (s .three) (a .three);
+    }
+
+-- one message with answers
+unfoldable pub answeredOf : Call → Kind → Phase → Fates → List ℕ → Reply
+answeredOf c kind next f e = outcomeOf c kind next f (seenOf e (c .rights .limit)) (failedOf f)
+
+-- "ALERTING (Requested)."
+unfoldable pub alertingOf : Call → Answers → List ℕ → Reply
+alertingOf c a e =
+    heardOf c (barOf c (requestedOf (c .phase)) true)
+    (answeredOf c Kind.Alerting Phase.Alerting (alertingFatesOf (c .standings) a) e)
+
+-- "CONNECT (Requested, Alerting)." ALERTING came exactly if the call is no longer Requested.
+unfoldable pub connectOf : Call → Answers → List ℕ → Reply
+connectOf c a e =
+    heardOf c (barOf c (connectableOf (c .phase)) true)
+    (answeredOf c Kind.Connect Phase.Active (connectFatesOf (not (requestedOf (c .phase))) (c .standings) a) e)

@@ -1,0 +1,75 @@
+-- DISCONNECT and RELEASE COMPLETE.
+use Prim.Native.Nat.{ℕ}
+use mathlib.Core.List.{List}
+use mathlib.Core.Bool.{Bool, true, _||_}
+use lib.Dec.{leb}
+use Rattle.service.specs.declared.cause.Cause.{Cause}
+use Rattle.service.specs.declared.element.Note.{Note}
+use Rattle.service.specs.declared.element.Seen.{Seen}
+use Rattle.service.specs.declared.standing.Answers.{Answers}
+use Rattle.service.specs.declared.standing.Facilities.{Facilities}
+use Rattle.service.specs.declared.standing.Standing.{Standing}
+use Rattle.service.specs.declared.standing.Standings.{Standings}
+use Rattle.rules.specs.declared.answer.Answer.{Answer}
+use Rattle.rules.specs.declared.message.Kind.{Kind}
+use Rattle.rules.specs.declared.message.Sent.{Sent}
+use Rattle.rules.specs.declared.phase.Phase.{Phase}
+use Rattle.rules.specs.declared.side.Side.{Side}
+use Rattle.call.specs.declared.Call.{Call}
+use Rattle.call.specs.declared.reply.Reply.{Reply}
+use Rattle.service.specs.Standing.{inForceOf, awaitsOf, silentAnswers, rejectionOf, closingSaidOf, closingStandingOf}
+use Rattle.service.specs.Cause.{greatestCause}
+use Rattle.service.specs.Element.{seenOf, notedOf, goesOutOf}
+use Rattle.rules.specs.Message.{sayingOf, bareOf}
+use Rattle.rules.specs.Phase.{upOf, liveOf}
+use Rattle.call.specs.Sound.{inPhaseOf}
+use Rattle.call.specs.Reply.{barOf, heardOf, replyOf}
+
+-- "From the called side": the calling side's answers count for nothing
+abbrev pub heardAnswersOf : Side → Answers → Answers
+heardAnswersOf Side.Calling a = silentAnswers
+heardAnswersOf Side.Called a = a
+
+-- "rejections of the caller's open requests go on too, and an acceptance of open service 1 counts first and goes on". asks: the caller's own
+-- FACILITY request is open.
+unfoldable pub closingFacilitiesOf : Standings → Bool → Answers → Facilities
+closingFacilitiesOf s asks a =
+    record {
+      one = closingSaidOf (s .one) (a .one);
+      two = rejectionOf (awaitsOf (s .two)) (a .two);
+      three = rejectionOf (awaitsOf (s .three) || asks) (a .three);
+    }
+
+-- the record in Clearing, with service 1 as the last answer left it
+unfoldable pub closedCallOf : Call → Standing → Call
+closedCallOf c one =
+    record {
+      reference = c .reference;
+      rights = c .rights;
+      phase = Phase.Clearing;
+      standings = record { one = one; two = c .standings .two; three = c .standings .three };
+      asking = c .asking;
+      meters = c .meters;
+    }
+
+-- "Passed on with cause and, if service 1 is in force, the element; Clearing."
+unfoldable pub passedOnOf : Call → Side → ℕ → Answers → Seen → Reply
+passedOnOf c side cause a seen =
+    replyOf side (closedCallOf c (closingStandingOf (c .standings .one) (a .one))) Answer.Taken
+    (notedOf seen (inForceOf (closingStandingOf (c .standings .one) (a .one)))) Sent.Absent
+    (sayingOf Kind.Disconnect (Cause.Value cause) (closingFacilitiesOf (c .standings) (c .asking .calling) a)
+    (goesOutOf seen (inForceOf (closingStandingOf (c .standings .one) (a .one)))))
+
+-- "DISCONNECT (up)." Number 24: "DISCONNECT, cause over 127".
+unfoldable pub disconnectOf : Call → Side → ℕ → Answers → List ℕ → Reply
+disconnectOf c side cause a e =
+    heardOf c (barOf c (upOf (c .phase)) (leb cause greatestCause))
+    (passedOnOf c side cause (heardAnswersOf side a) (seenOf e (c .rights .limit)))
+
+-- "Passed on bare; Ended."
+unfoldable pub endsOf : Call → Side → Reply
+endsOf c side = replyOf side (inPhaseOf c Phase.Ended) Answer.Taken Note.Clear Sent.Absent (bareOf Kind.ReleaseComplete Cause.Absent)
+
+-- "RELEASE COMPLETE (up, Clearing)."
+unfoldable pub releaseCompleteOf : Call → Side → Reply
+releaseCompleteOf c side = heardOf c (barOf c (liveOf (c .phase)) true) (endsOf c side)

@@ -1,0 +1,70 @@
+-- FACILITY: service 3 while connected.
+use Prim.Native.Nat.{ℕ}
+use mathlib.Core.Bool.{true, false, cond, _||_, not}
+use Rattle.service.specs.declared.cause.Cause.{Cause}
+use Rattle.service.specs.declared.element.Note.{Note}
+use Rattle.service.specs.declared.standing.Said.{Said}
+use Rattle.rules.specs.declared.answer.Answer.{Answer}
+use Rattle.rules.specs.declared.asking.What.{What}
+use Rattle.rules.specs.declared.message.Kind.{Kind}
+use Rattle.rules.specs.declared.message.Sent.{Sent}
+use Rattle.rules.specs.declared.side.Side.{Side}
+use Rattle.call.specs.declared.Call.{Call}
+use Rattle.call.specs.declared.Meters.{Meters}
+use Rattle.call.specs.declared.reply.Reply.{Reply}
+use Rattle.service.specs.Standing.{inForceOf}
+use Rattle.rules.specs.Message.{sayingOf, onlyIfOf}
+use Rattle.rules.specs.Asking.{asksOf, mayAskOf, toRequestOf, toAnswerOf, facilityAnswerOf, facilitySaidOf, facilityAskingOf, facilityThreeOf, notGrantedOf}
+use Rattle.rules.specs.Side.{peerOf}
+use Rattle.rules.specs.Answer.{takenOf}
+use Rattle.rules.specs.Phase.{activeOf}
+use Rattle.call.specs.Answering.{grantsOf}
+use Rattle.call.specs.Reply.{barOf, heardOf, replyOf}
+
+-- "for a request 18, 16, 15; for an answer 15". Number 15: "service 3 in force, asker's own request open, or an answer with no open request of
+-- the other side".
+unfoldable pub facilityVerdictOf : Call → Side → What → Answer
+facilityVerdictOf c side what =
+    facilityAnswerOf what
+    (toRequestOf (mayAskOf (c .rights) side) (inForceOf (c .standings .three) || asksOf (c .asking) side))
+    (toAnswerOf (inForceOf (c .standings .three) || not (asksOf (c .asking) (peerOf side))))
+
+-- "Accept puts the service in force": so each direction gets X credits
+abbrev pub facilityMetersOf : Meters → ℕ → What → Meters
+facilityMetersOf m burst What.Preferred = m
+facilityMetersOf m burst What.Accept = grantsOf m burst
+facilityMetersOf m burst What.Reject = m
+facilityMetersOf m burst What.Required = m
+
+-- the record once the message is taken
+unfoldable pub facilityCallOf : Call → Side → What → Call
+facilityCallOf c side what =
+    record {
+      reference = c .reference;
+      rights = c .rights;
+      phase = c .phase;
+      standings =
+          record {
+            one = c .standings .one;
+            two = c .standings .two;
+            three = facilityThreeOf (c .standings .three) what;
+          };
+      asking = facilityAskingOf (c .asking) side what;
+      meters = facilityMetersOf (c .meters) (c .rights .burst) what;
+    }
+
+-- FACILITY that says one thing of service 3
+unfoldable pub aboutThreeOf : Said → Sent
+aboutThreeOf s = sayingOf Kind.Facility Cause.Absent (record { one = Said.Nothing; two = Said.Nothing; three = s }) false
+
+-- "Request, accept or reject for service 3, passed to the other user when taken"; "16 sends the asker FACILITY with rejectedByNetwork"
+unfoldable pub passesFacilityOf : Call → Side → What → Answer → Reply
+passesFacilityOf c side what verdict =
+    replyOf side (cond (takenOf verdict) (facilityCallOf c side what) c) verdict Note.Clear
+    (onlyIfOf (notGrantedOf verdict) (aboutThreeOf Said.ByNetwork))
+    (onlyIfOf (takenOf verdict) (aboutThreeOf (facilitySaidOf what)))
+
+-- "FACILITY (Active)."
+unfoldable pub facilityOf : Call → Side → What → Reply
+facilityOf c side what =
+    heardOf c (barOf c (activeOf (c .phase)) true) (passesFacilityOf c side what (facilityVerdictOf c side what))

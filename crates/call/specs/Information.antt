@@ -1,0 +1,65 @@
+-- USER INFORMATION.
+use Prim.Native.Nat.{ℕ}
+use mathlib.Core.List.{List}
+use mathlib.Core.Bool.{Bool, true, cond}
+use Rattle.meter.specs.declared.Meter.{Meter}
+use Rattle.meter.specs.declared.Passage.{Passage}
+use Rattle.service.specs.declared.element.Note.{Note}
+use Rattle.service.specs.declared.element.Seen.{Seen}
+use Rattle.rules.specs.declared.answer.Answer.{Answer}
+use Rattle.rules.specs.declared.message.Level.{Level}
+use Rattle.rules.specs.declared.side.Side.{Side}
+use Rattle.call.specs.declared.Call.{Call}
+use Rattle.call.specs.declared.Meters.{Meters}
+use Rattle.call.specs.declared.reply.Reply.{Reply}
+use Rattle.meter.specs.Meter.{passageOf, afterOf}
+use Rattle.service.specs.Standing.{inForceOf}
+use Rattle.service.specs.Element.{seenOf, wholeOf, notedOf}
+use Rattle.rules.specs.Message.{congestionOf, informsOf, onlyIfOf}
+use Rattle.rules.specs.Phase.{talkingOf}
+use Rattle.rules.specs.Serving.{lateOf, servesTwoOf, servesThreeOf, passageAnswerOf, passesOf, marksOf}
+use Rattle.call.specs.Reply.{barOf, refusedOf, heardOf, replyOf}
+
+-- "A call record holds two": the meter of what a side sends
+abbrev pub meterOf : Meters → Side → Meter
+meterOf m Side.Calling = m .calling
+meterOf m Side.Called = m .called
+
+abbrev pub withMeterOf : Meters → Side → Meter → Meters
+withMeterOf m Side.Calling n = record { calling = n; called = m .called }
+withMeterOf m Side.Called n = record { calling = m .calling; called = n }
+
+-- the record with other meters
+unfoldable pub metersOf : Call → Meters → Call
+metersOf c m =
+    record {
+      reference = c .reference;
+      rights = c .rights;
+      phase = c .phase;
+      standings = c .standings;
+      asking = c .asking;
+      meters = m;
+    }
+
+-- what a side's message meets in its meter
+unfoldable pub informationPassageOf : Call → Side → Passage
+informationPassageOf c side =
+    passageOf (meterOf (c .meters) side)
+    (servesTwoOf (c .phase) (inForceOf (c .standings .two)) (lateOf side (c .rights .late)))
+    (servesThreeOf (c .phase) (inForceOf (c .standings .three)))
+
+-- A message that passes goes on to the other side; "14 may set the not-ready mark and send CONGESTION CONTROL" to the sender.
+unfoldable pub carriedOf : Call → Side → Bool → Passage → Reply
+carriedOf c side more p =
+    replyOf side (metersOf c (withMeterOf (c .meters) side (afterOf (meterOf (c .meters) side) p))) (passageAnswerOf p) Note.Clear
+    (onlyIfOf (marksOf p) (congestionOf Level.NotReady)) (onlyIfOf (passesOf p) (informsOf more))
+
+-- "17 USER INFORMATION, element absent, under 3 octets or over the limit", "which note 1 also brings". It has the element's note.
+unfoldable pub withElementOf : Call → Seen → Reply → Reply
+withElementOf c seen r = cond (wholeOf seen) r (refusedOf c Answer.BadElement (notedOf seen true))
+
+-- 25, 11, then "for USER INFORMATION 17, 13, 14"
+unfoldable pub informationOf : Call → Side → Bool → List ℕ → Reply
+informationOf c side more e =
+    heardOf c (barOf c (talkingOf (c .phase)) true)
+    (withElementOf c (seenOf e (c .rights .limit)) (carriedOf c side more (informationPassageOf c side)))

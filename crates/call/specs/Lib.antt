@@ -1,0 +1,9 @@
+pub mod Sound
+pub mod Reply
+pub mod Setup
+pub mod Answering
+pub mod Information
+pub mod Facility
+pub mod Disconnect
+pub mod Tick
+pub mod Step

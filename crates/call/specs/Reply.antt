@@ -1,0 +1,29 @@
+-- Numbers given back, the first of them that applies, and replies.
+use mathlib.Core.Bool.{Bool, cond}
+use Rattle.service.specs.declared.element.Note.{Note}
+use Rattle.rules.specs.declared.answer.Answer.{Answer}
+use Rattle.rules.specs.declared.message.Sent.{Sent}
+use Rattle.rules.specs.declared.side.Side.{Side}
+use Rattle.call.specs.declared.Call.{Call}
+use Rattle.call.specs.declared.reply.Reply.{Reply}
+use Rattle.rules.specs.Side.{pickOf}
+use Rattle.rules.specs.Answer.{takenOf}
+use Rattle.call.specs.Sound.{soundOf}
+
+-- "25 comes first of 11 to 25; .. then the call 12, 11, 24". allowed: the phase allows the event. ranged: reference, rights and cause are in range.
+unfoldable pub barOf : Call → Bool → Bool → Answer
+barOf c allowed ranged =
+    cond (soundOf c) (cond allowed (cond ranged Answer.Taken Answer.OutOfRange) Answer.OutOfPhase) Answer.Unsound
+
+-- "11 to 25 change no call, meter or table and send nothing"
+unfoldable pub refusedOf : Call → Answer → Note → Reply
+refusedOf c a note = record { call = c; answer = a; note = note; calling = Sent.Absent; called = Sent.Absent }
+
+-- the reply, unless the event is barred; "Every other refusal has note 0."
+unfoldable pub heardOf : Call → Answer → Reply → Reply
+heardOf c bar r = cond (takenOf bar) r (refusedOf c bar Note.Clear)
+
+-- a reply to one side's event: back goes to that side, on to the other
+unfoldable pub replyOf : Side → Call → Answer → Note → Sent → Sent → Reply
+replyOf side c a note back on =
+    record { call = c; answer = a; note = note; calling = pickOf side back on; called = pickOf side on back }

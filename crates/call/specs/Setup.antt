@@ -1,0 +1,73 @@
+-- SETUP.
+use Prim.Native.Nat.{ℕ}
+use mathlib.Core.List.{List}
+use mathlib.Core.Bool.{Bool, false, cond, _&&_, not}
+use Rattle.service.specs.declared.cause.Cause.{Cause}
+use Rattle.service.specs.declared.element.Seen.{Seen}
+use Rattle.service.specs.declared.rights.Rights.{Rights}
+use Rattle.service.specs.declared.standing.Facilities.{Facilities}
+use Rattle.service.specs.declared.standing.Requests.{Requests}
+use Rattle.service.specs.declared.standing.Standings.{Standings}
+use Rattle.rules.specs.declared.answer.Answer.{Answer}
+use Rattle.rules.specs.declared.message.Kind.{Kind}
+use Rattle.rules.specs.declared.message.Sent.{Sent}
+use Rattle.rules.specs.declared.phase.Phase.{Phase}
+use Rattle.call.specs.declared.Call.{Call}
+use Rattle.call.specs.declared.reply.Reply.{Reply}
+use Rattle.service.specs.Rights.{rightsFitOf, referenceFitsOf}
+use Rattle.service.specs.Standing.{remainsOf, standingsOf, lacksOf, passedRequestsOf, networkRefusalsOf}
+use Rattle.service.specs.Cause.{notSubscribed}
+use Rattle.service.specs.Element.{seenOf, notedOf, goesOutOf}
+use Rattle.rules.specs.Message.{sayingOf}
+use Rattle.rules.specs.Asking.{nobodyAsks}
+use Rattle.rules.specs.Phase.{freshOf}
+use Rattle.call.specs.Sound.{emptyMeters}
+use Rattle.call.specs.Reply.{barOf, heardOf}
+
+-- "If a required service is not in the rights: .. Ended. Otherwise .. Requested."
+unfoldable pub setupPhaseOf : Bool → Phase
+setupPhaseOf lacking = cond lacking Phase.Ended Phase.Requested
+
+-- "SETUP fills the whole record, used for one call."
+unfoldable pub filledOf : ℕ → Rights → Phase → Standings → Call
+filledOf reference rights phase standings =
+    record {
+      reference = reference;
+      rights = rights;
+      phase = phase;
+      standings = standings;
+      asking = nobodyAsks;
+      meters = emptyMeters;
+    }
+
+-- "RELEASE COMPLETE to the caller, cause 50, rejectedByNetwork for every asked service the rights lack"; otherwise "CALL PROCEEDING to the caller
+-- with rejectedByNetwork for each explicit preferred service lacking"
+unfoldable pub toCallerOf : Bool → Facilities → Sent
+toCallerOf lacking refusals =
+    cond lacking (sayingOf Kind.ReleaseComplete (Cause.Value notSubscribed) refusals false)
+    (sayingOf Kind.CallProceeding Cause.Absent refusals false)
+
+-- "Otherwise SETUP goes on with the remaining requests and the element"
+unfoldable pub toCalledOf : Bool → Facilities → Bool → Sent
+toCalledOf lacking requests element = cond lacking Sent.Absent (sayingOf Kind.Setup Cause.Absent requests element)
+
+-- "the element (if service 1 remains)", and the message goes on
+unfoldable pub setupCarriesOf : Rights → Requests → Seen → Bool
+setupCarriesOf rights q seen = not (lacksOf rights q) && remainsOf (standingsOf rights q seen .one)
+
+-- a SETUP that is taken: the new record and the two messages
+unfoldable pub proceedsOf : ℕ → Rights → Requests → Seen → Reply
+proceedsOf reference rights q seen =
+    record {
+      call = filledOf reference rights (setupPhaseOf (lacksOf rights q)) (standingsOf rights q seen);
+      answer = Answer.Taken;
+      note = notedOf seen (setupCarriesOf rights q seen);
+      calling = toCallerOf (lacksOf rights q) (networkRefusalsOf rights q);
+      called = toCalledOf (lacksOf rights q) (passedRequestsOf rights q) (goesOutOf seen (setupCarriesOf rights q seen));
+    }
+
+-- "SETUP (Fresh)." Number 24: "SETUP, reference or rights out of range".
+unfoldable pub setupOf : Call → ℕ → Rights → Requests → List ℕ → Reply
+setupOf c reference rights q e =
+    heardOf c (barOf c (freshOf (c .phase)) (referenceFitsOf reference && rightsFitOf rights))
+    (proceedsOf reference rights q (seenOf e (rights .limit)))

@@ -1,0 +1,147 @@
+// DISCONNECT and RELEASE COMPLETE.
+ghost use mathlib.Core.Path.{_≡_};
+ghost use Rattle.call.specs.Disconnect.{heardAnswersOf, closingFacilitiesOf, closedCallOf, passedOnOf, endsOf, disconnectOf, releaseCompleteOf};
+use crate::Call;
+use crate::reply::Reply;
+use crate::reply::barred;
+use crate::reply::heard;
+use crate::reply::reply_to;
+use crate::sound::in_phase;
+use rules::answer::Answer;
+use rules::message::Kind;
+use rules::message::Sent;
+use rules::message::bare;
+use rules::message::saying;
+use rules::phase::Phase;
+use rules::phase::is_live;
+use rules::phase::is_up;
+use rules::side::Side;
+use service::cause::Cause;
+use service::cause::GREATEST_CAUSE;
+use service::element::Note;
+use service::element::Seen;
+use service::element::goes_out;
+use service::element::look;
+use service::element::noted;
+use service::standing::Answers;
+use service::standing::Facilities;
+use service::standing::Standing;
+use service::standing::Standings;
+use service::standing::awaits;
+use service::standing::closing_said;
+use service::standing::closing_standing;
+use service::standing::in_force;
+use service::standing::no_answers;
+use service::standing::rejection;
+
+// Only the called side has anything to answer.
+pub fn heard_answers(side: Side, a: Answers) -> Answers
+    ensures { λ r. ⌜ r ≡ heardAnswersOf side a ⌝ }
+{
+    match side {
+        Side::Calling => no_answers(),
+        Side::Called => a,
+    }
+}
+
+// `asks` says whether the caller's own FACILITY request is open.
+pub fn closing_facilities(s: Standings, asks: bool, a: Answers) -> Facilities
+    ensures { λ r. ⌜ r ≡ closingFacilitiesOf s asks a ⌝ }
+{
+    let one = s.one;
+    let two = s.two;
+    let three = s.three;
+    let first = a.one;
+    let second = a.two;
+    let third = a.three;
+    Facilities {
+        one: closing_said(one, first),
+        two: rejection(awaits(two), second),
+        three: rejection(awaits(three) | asks, third),
+    }
+}
+
+// The record keeps what it had, but for service 1 accepted at the last moment.
+pub fn closed_call(c: Call, one: Standing) -> Call
+    ensures { λ r. ⌜ r ≡ closedCallOf c one ⌝ }
+{
+    let rights = c.rights;
+    let standings = c.standings;
+    let asking = c.asking;
+    let meters = c.meters;
+    let two = standings.two;
+    let three = standings.three;
+    Call {
+        reference: c.reference,
+        rights: rights,
+        phase: Phase::Clearing,
+        standings: Standings {
+            one: one,
+            two: two,
+            three: three,
+        },
+        asking: asking,
+        meters: meters,
+    }
+}
+
+// `answers` are those that count.
+pub fn passed_on(c: Call, side: Side, cause: u8, answers: Answers, seen: Seen) -> Reply
+    ensures { λ r. ⌜ r ≡ passedOnOf c side cause answers seen ⌝ }
+{
+    let standings = c.standings;
+    let asking = c.asking;
+    let one = standings.one;
+    let first = answers.one;
+    let next = closing_standing(one, first);
+    let carried = in_force(next);
+    let said = closing_facilities(standings, asking.calling, answers);
+    let on = saying(
+        Kind::Disconnect,
+        Cause::Value(cause),
+        said,
+        goes_out(seen, carried),
+    );
+    reply_to(
+        side,
+        closed_call(c, next),
+        Answer::Taken,
+        noted(seen, carried),
+        Sent::Absent,
+        on,
+    )
+}
+
+pub fn ends(c: Call, side: Side) -> Reply
+    ensures { λ r. ⌜ r ≡ endsOf c side ⌝ }
+{
+    reply_to(
+        side,
+        in_phase(c, Phase::Ended),
+        Answer::Taken,
+        Note::Clear,
+        Sent::Absent,
+        bare(Kind::ReleaseComplete, Cause::Absent),
+    )
+}
+
+impl Call {
+    pub fn disconnect(self, side: Side, cause: u8, answers: Answers, element: &[u8]) -> Reply
+        ensures { λ r. ⌜ r ≡ disconnectOf self side cause answers (now (element .entry)) ⌝ }
+    {
+        let phase = self.phase;
+        let rights = self.rights;
+        let bar = barred(self, is_up(phase), cause <= GREATEST_CAUSE);
+        let seen = look(element, rights.limit);
+        let counted = heard_answers(side, answers);
+        heard(self, bar, passed_on(self, side, cause, counted, seen))
+    }
+
+    pub fn release_complete(self, side: Side) -> Reply
+        ensures { λ r. ⌜ r ≡ releaseCompleteOf self side ⌝ }
+    {
+        let phase = self.phase;
+        let bar = barred(self, is_live(phase), true);
+        heard(self, bar, ends(self, side))
+    }
+}

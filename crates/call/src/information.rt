@@ -1,0 +1,136 @@
+// USER INFORMATION.
+ghost use mathlib.Core.Path.{_≡_};
+ghost use Rattle.call.specs.Information.{meterOf, withMeterOf, metersOf, informationPassageOf, carriedOf, withElementOf, informationOf};
+use crate::Call;
+use crate::Meters;
+use crate::reply::Reply;
+use crate::reply::barred;
+use crate::reply::heard;
+use crate::reply::refused;
+use crate::reply::reply_to;
+use meter::Meter;
+use meter::Passage;
+use meter::after;
+use meter::passage_of;
+use rules::answer::Answer;
+use rules::message::Level;
+use rules::message::congestion;
+use rules::message::informs;
+use rules::message::only_if;
+use rules::phase::is_talking;
+use rules::serving::late;
+use rules::serving::marks;
+use rules::serving::passage_answer;
+use rules::serving::passes;
+use rules::serving::serves_three;
+use rules::serving::serves_two;
+use rules::side::Side;
+use service::element::Note;
+use service::element::Seen;
+use service::element::look;
+use service::element::noted;
+use service::element::whole;
+use service::standing::in_force;
+
+// The meter of what a side sends.
+pub fn meter_of(m: Meters, side: Side) -> Meter
+    ensures { λ r. ⌜ r ≡ meterOf m side ⌝ }
+{
+    match side {
+        Side::Calling => m.calling,
+        Side::Called => m.called,
+    }
+}
+
+// The meters with another one for what a side sends.
+pub fn with_meter(m: Meters, side: Side, n: Meter) -> Meters
+    ensures { λ r. ⌜ r ≡ withMeterOf m side n ⌝ }
+{
+    let calling = m.calling;
+    let called = m.called;
+    match side {
+        Side::Calling => Meters {
+            calling: n,
+            called: called,
+        },
+        Side::Called => Meters {
+            calling: calling,
+            called: n,
+        },
+    }
+}
+
+pub fn with_meters(c: Call, m: Meters) -> Call
+    ensures { λ r. ⌜ r ≡ metersOf c m ⌝ }
+{
+    let rights = c.rights;
+    let phase = c.phase;
+    let standings = c.standings;
+    let asking = c.asking;
+    Call {
+        reference: c.reference,
+        rights: rights,
+        phase: phase,
+        standings: standings,
+        asking: asking,
+        meters: m,
+    }
+}
+
+// What a side's message meets in its meter.
+pub fn information_passage(c: Call, side: Side) -> Passage
+    ensures { λ r. ⌜ r ≡ informationPassageOf c side ⌝ }
+{
+    let rights = c.rights;
+    let phase = c.phase;
+    let standings = c.standings;
+    let meters = c.meters;
+    let two = standings.two;
+    let three = standings.three;
+    passage_of(
+        meter_of(meters, side),
+        serves_two(phase, in_force(two), late(side, rights.late)),
+        serves_three(phase, in_force(three)),
+    )
+}
+
+// What the passage makes of the call, and the messages.
+pub fn carried(c: Call, side: Side, more: bool, p: Passage) -> Reply
+    ensures { λ r. ⌜ r ≡ carriedOf c side more p ⌝ }
+{
+    let meters = c.meters;
+    let next = with_meter(meters, side, after(meter_of(meters, side), p));
+    reply_to(
+        side,
+        with_meters(c, next),
+        passage_answer(p),
+        Note::Clear,
+        only_if(marks(p), congestion(Level::NotReady)),
+        only_if(passes(p), informs(more)),
+    )
+}
+
+// 17: the one refusal that has the element's note.
+pub fn with_element(c: Call, seen: Seen, r: Reply) -> Reply
+    ensures { λ s. ⌜ s ≡ withElementOf c seen r ⌝ }
+{
+    if whole(seen) {
+        r
+    } else {
+        refused(c, Answer::BadElement, noted(seen, true))
+    }
+}
+
+impl Call {
+    pub fn information(self, side: Side, more: bool, element: &[u8]) -> Reply
+        ensures { λ r. ⌜ r ≡ informationOf self side more (now (element .entry)) ⌝ }
+    {
+        let phase = self.phase;
+        let rights = self.rights;
+        let bar = barred(self, is_talking(phase), true);
+        let seen = look(element, rights.limit);
+        let passage = information_passage(self, side);
+        let reply = carried(self, side, more, passage);
+        heard(self, bar, with_element(self, seen, reply))
+    }
+}

@@ -1,0 +1,75 @@
+// Replies: the answer and its number, and the tests that come first.
+ghost use mathlib.Core.Path.{_≡_};
+ghost use Rattle.call.specs.Reply.{barOf, refusedOf, heardOf, replyOf};
+use crate::Call;
+use rules::answer::Answer;
+use rules::answer::taken;
+use rules::message::Sent;
+use rules::side::Side;
+use rules::side::pick;
+use service::element::Note;
+
+// calling and called: what is sent to the calling and to the called user.
+pub struct Reply {
+    pub call: Call,
+    pub answer: Answer,
+    pub note: Note,
+    pub calling: Sent,
+    pub called: Sent,
+}
+
+// The first of 25, 11 and 24 that applies.
+pub fn barred(c: Call, allowed: bool, ranged: bool) -> Answer
+    ensures { λ r. ⌜ r ≡ barOf c allowed ranged ⌝ }
+{
+    if c.sound() {
+        if allowed {
+            if ranged {
+                Answer::Taken
+            } else {
+                Answer::OutOfRange
+            }
+        } else {
+            Answer::OutOfPhase
+        }
+    } else {
+        Answer::Unsound
+    }
+}
+
+// A refusal leaves the record as it was and sends nothing.
+pub fn refused(c: Call, a: Answer, note: Note) -> Reply
+    ensures { λ r. ⌜ r ≡ refusedOf c a note ⌝ }
+{
+    Reply {
+        call: c,
+        answer: a,
+        note: note,
+        calling: Sent::Absent,
+        called: Sent::Absent,
+    }
+}
+
+// The reply, unless the event is barred.
+pub fn heard(c: Call, bar: Answer, r: Reply) -> Reply
+    ensures { λ s. ⌜ s ≡ heardOf c bar r ⌝ }
+{
+    if taken(bar) {
+        r
+    } else {
+        refused(c, bar, Note::Clear)
+    }
+}
+
+// A reply to one side's event: `back` goes to that side, `on` to the other.
+pub fn reply_to(side: Side, c: Call, a: Answer, note: Note, back: Sent, on: Sent) -> Reply
+    ensures { λ r. ⌜ r ≡ replyOf side c a note back on ⌝ }
+{
+    Reply {
+        call: c,
+        answer: a,
+        note: note,
+        calling: pick(side, back, on),
+        called: pick(side, on, back),
+    }
+}

@@ -1,0 +1,107 @@
+// A fresh record, whether a record is live, and whether a live record is sound.
+ghost use mathlib.Core.Path.{_≡_};
+ghost use Rattle.call.specs.Sound.{noRights, emptyMeters, noServices, fieldsFitOf, inPhaseOf, freshCall, soundOf};
+ghost use Rattle.rules.specs.Phase.{liveOf};
+use crate::Call;
+use crate::Meters;
+use meter::empty;
+use meter::meter_fits;
+use rules::asking::nobody_asks;
+use rules::phase::Phase;
+use rules::phase::is_live;
+use service::rights::Rights;
+use service::rights::reference_fits;
+use service::rights::rights_fit;
+use service::standing::Standing;
+use service::standing::Standings;
+
+pub fn no_rights() -> Rights
+    ensures { λ r. ⌜ r ≡ noRights ⌝ }
+{
+    Rights {
+        services: 0,
+        late: false,
+        leave: false,
+        limit: 0,
+        burst: 0,
+        refill: 0,
+    }
+}
+
+pub fn empty_meters() -> Meters
+    ensures { λ r. ⌜ r ≡ emptyMeters ⌝ }
+{
+    Meters {
+        calling: empty(),
+        called: empty(),
+    }
+}
+
+pub fn no_services() -> Standings
+    ensures { λ r. ⌜ r ≡ noServices ⌝ }
+{
+    Standings {
+        one: Standing::Unasked,
+        two: Standing::Unasked,
+        three: Standing::Unasked,
+    }
+}
+
+pub fn fields_fit(c: Call) -> bool
+    ensures { λ r. ⌜ r ≡ fieldsFitOf c ⌝ }
+{
+    let rights = c.rights;
+    let meters = c.meters;
+    let calling = meters.calling;
+    let called = meters.called;
+    reference_fits(c.reference)
+        & rights_fit(rights)
+        & meter_fits(calling, rights.burst)
+        & meter_fits(called, rights.burst)
+}
+
+// The record keeps what it had: only its phase changes.
+pub fn in_phase(c: Call, p: Phase) -> Call
+    ensures { λ r. ⌜ r ≡ inPhaseOf c p ⌝ }
+{
+    let rights = c.rights;
+    let standings = c.standings;
+    let asking = c.asking;
+    let meters = c.meters;
+    Call {
+        reference: c.reference,
+        rights: rights,
+        phase: p,
+        standings: standings,
+        asking: asking,
+        meters: meters,
+    }
+}
+
+impl Call {
+    pub fn fresh() -> Call
+        ensures { λ r. ⌜ r ≡ freshCall ⌝ }
+    {
+        Call {
+            reference: 0,
+            rights: no_rights(),
+            phase: Phase::Fresh,
+            standings: no_services(),
+            asking: nobody_asks(),
+            meters: empty_meters(),
+        }
+    }
+
+    pub fn live(self) -> bool
+        ensures { λ r. ⌜ r ≡ liveOf (self .phase) ⌝ }
+    {
+        let phase = self.phase;
+        is_live(phase)
+    }
+
+    pub fn sound(self) -> bool
+        ensures { λ r. ⌜ r ≡ soundOf self ⌝ }
+    {
+        if self.live() { fields_fit(self) } else { true }
+    }
+}

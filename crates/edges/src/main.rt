@@ -1,0 +1,251 @@
+// Runs cases of calls that are easy to get wrong, and a whole call with every service, and prints a line for each event:
+// its name, the answer, the note, and the type and cause of the message to the calling and to the called user.
+use call::Call;
+use call::Event;
+use call::reply::Reply;
+use libc::STDOUT_FILENO;
+use rules::answer::number;
+use rules::asking::What;
+use rules::message::Sent;
+use rules::message::kind_number;
+use rules::side::Side;
+use service::cause::Cause;
+use service::element::note_number;
+use service::rights::Rights;
+use service::standing::Answers;
+use service::standing::Given;
+use service::standing::Request;
+use service::standing::Requests;
+
+fn show_cause(c: Cause) {
+    match c {
+        Cause::Absent => {}
+        Cause::Value(n) => {
+            io::write_all(STDOUT_FILENO, b".");
+            io::print_decimal(STDOUT_FILENO, n as u64);
+        }
+    }
+}
+
+// The type in hexadecimal, then the cause and whether the element goes out.
+fn show_sent(s: Sent) {
+    io::write_all(STDOUT_FILENO, b" ");
+    match s {
+        Sent::Absent => {
+            io::write_all(STDOUT_FILENO, b"-");
+        }
+        Sent::Present(m) => {
+            let kind = m.kind;
+            let cause = m.cause;
+            io::print_hex(STDOUT_FILENO, kind_number(kind) as u64, 2);
+            show_cause(cause);
+            if m.element {
+                io::write_all(STDOUT_FILENO, b"+");
+            }
+        }
+    }
+}
+
+fn show(name: &[u8], r: Reply) {
+    let answer = r.answer;
+    let note = r.note;
+    let calling = r.calling;
+    let called = r.called;
+    io::write_all(STDOUT_FILENO, name);
+    io::write_all(STDOUT_FILENO, b": ");
+    io::print_decimal(STDOUT_FILENO, number(answer) as u64);
+    io::write_all(STDOUT_FILENO, b" ");
+    io::print_decimal(STDOUT_FILENO, note_number(note) as u64);
+    show_sent(calling);
+    show_sent(called);
+    io::write_all(STDOUT_FILENO, b"\n");
+}
+
+// One event, shown; the next record.
+fn run(name: &[u8], c: Call, e: Event, element: &[u8]) -> Call {
+    let r = c.step(e, element);
+    show(name, r);
+    let next = r.call;
+    next
+}
+
+// SETUP of a new call.
+fn sets_up(name: &[u8], r: Rights, requests: Requests, element: &[u8]) -> Call {
+    let e = Event::Setup {
+        reference: 5,
+        rights: r,
+        requests: requests,
+    };
+    run(name, Call::fresh(), e, element)
+}
+
+fn rights(services: u8, late: bool, limit: u8) -> Rights {
+    Rights {
+        services: services,
+        late: late,
+        leave: false,
+        limit: limit,
+        burst: 1,
+        refill: 1,
+    }
+}
+
+fn requests(one: Request, two: Request, three: Request) -> Requests {
+    Requests {
+        one: one,
+        two: two,
+        three: three,
+    }
+}
+
+fn nothing_asked() -> Requests {
+    requests(Request::Unasked, Request::Unasked, Request::Unasked)
+}
+
+// The same answer to every service.
+fn answers(g: Given) -> Answers {
+    Answers {
+        one: g,
+        two: g,
+        three: g,
+    }
+}
+
+fn connects(name: &[u8], c: Call, g: Given) -> Call {
+    let e = Event::Connect {
+        answers: answers(g),
+    };
+    run(name, c, e, b"")
+}
+
+fn says(name: &[u8], c: Call, side: Side) -> Call {
+    let e = Event::Information {
+        side: side,
+        more: false,
+    };
+    run(name, c, e, b"~\x02\x04C")
+}
+
+fn asks(name: &[u8], c: Call, side: Side, what: What) -> Call {
+    let e = Event::Facility {
+        side: side,
+        what: what,
+    };
+    run(name, c, e, b"")
+}
+
+// A call in Alerting with every service asked for, 1 and 2 in force, and late delivery.
+fn alerted() -> Call {
+    let q = requests(Request::Preferred, Request::Preferred, Request::Preferred);
+    let c = sets_up(
+        b"setup, all three preferred",
+        rights(7, true, 5),
+        q,
+        b"~\x02\x04A",
+    );
+    let e = Event::Alerting {
+        answers: answers(Given::Accepted),
+    };
+    run(b"alerting, accepted", c, e, b"~\x02\x04B")
+}
+
+fn counted(c: Call) -> Call {
+    let d = says(b"alerting, first message", c, Side::Called);
+    let e = says(b"alerting, second message", d, Side::Called);
+    says(b"alerting, third message", e, Side::Called)
+}
+
+// A late message once the service 2 count is spent goes on under service 3.
+fn late(c: Call) -> Call {
+    let d = says(b"late, first message", c, Side::Calling);
+    let e = says(b"late, second message", d, Side::Calling);
+    says(b"late, count spent, credit left", e, Side::Calling)
+}
+
+fn spent(c: Call) -> Call {
+    let d = says(b"credit spent", c, Side::Calling);
+    let e = says(b"credit spent, once more", d, Side::Calling);
+    let f = run(b"tick", e, Event::Tick, b"");
+    says(b"after the tick", f, Side::Calling)
+}
+
+fn ends(c: Call) {
+    let a = Event::Disconnect {
+        side: Side::Calling,
+        cause: 16,
+        answers: answers(Given::Accepted),
+    };
+    let r = Event::ReleaseComplete { side: Side::Called };
+    let d = run(b"disconnect", c, a, b"~\x02\x04E");
+    let e = run(b"release complete", d, r, b"");
+    says(b"user information on an ended record", e, Side::Called);
+}
+
+// A whole call with every service.
+fn whole() {
+    let c = counted(alerted());
+    let d = connects(b"connect, accepted", c, Given::Accepted);
+    ends(spent(late(d)));
+}
+
+// Lines of different limits: the same element is over one limit and at the other.
+fn limits() {
+    let q = nothing_asked();
+    sets_up(
+        b"five octets, limit four",
+        rights(1, false, 4),
+        q,
+        b"~\x03\x04AB",
+    );
+    sets_up(
+        b"five octets, limit five",
+        rights(1, false, 5),
+        q,
+        b"~\x03\x04AB",
+    );
+    sets_up(b"two octets", rights(1, false, 5), q, b"~\x00");
+    sets_up(b"three octets", rights(1, false, 5), q, b"~\x01\x04");
+}
+
+// A required service that the rights lack, and one that is not answered.
+fn required() {
+    let two = requests(Request::Unasked, Request::Required, Request::Unasked);
+    let three = requests(Request::Unasked, Request::Unasked, Request::Required);
+    sets_up(
+        b"service 2 required, not in the rights",
+        rights(5, false, 131),
+        two,
+        b"",
+    );
+    let c = sets_up(b"service 3 required", rights(7, false, 131), three, b"");
+    connects(b"connect, silent", c, Given::Silent);
+}
+
+// Service 3 asked for while connected: without leave, as required, and then taken and accepted.
+fn facilities() {
+    let b = sets_up(
+        b"setup, nothing asked",
+        rights(4, false, 131),
+        nothing_asked(),
+        b"",
+    );
+    let c = connects(b"connect, nothing due", b, Given::Silent);
+    let d = asks(
+        b"called side asks without leave",
+        c,
+        Side::Called,
+        What::Preferred,
+    );
+    let e = asks(b"asked as required", d, Side::Calling, What::Required);
+    let f = asks(b"asked as preferred", e, Side::Calling, What::Preferred);
+    let g = asks(b"asked again", f, Side::Calling, What::Preferred);
+    let h = asks(b"accepted", g, Side::Called, What::Accept);
+    says(b"under service 3", h, Side::Called);
+}
+
+fn main() {
+    whole();
+    limits();
+    required();
+    facilities();
+}

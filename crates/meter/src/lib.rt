@@ -1,0 +1,137 @@
+// The flow meter of one direction: what a message spends, and what a tick gives back.
+ghost use mathlib.Core.Path.{_≡_};
+ghost use Rattle.meter.specs.Meter.{emptyOf, meterFitsOf, grantedOf, refilledOf, tickedOf, underThreeOf, passageOf, afterOf};
+
+// Messages that service 2 lets through in one direction.
+pub const GREATEST_COUNT: u8 = 2;
+
+pub struct Meter {
+    pub credit: u16,
+    pub mark: bool,
+    pub count: u8,
+}
+
+// What becomes of a USER INFORMATION message: it passes under service 2 or under service 3, it is dropped and sets the mark, it is
+// dropped, or no service serves it. Each of the first three holds the meter as it is to be afterwards.
+pub enum Passage {
+    Two(Meter),
+    Three(Meter),
+    Marks(Meter),
+    Spent,
+    Unserved,
+}
+
+pub fn empty() -> Meter
+    ensures { λ r. ⌜ r ≡ emptyOf ⌝ }
+{
+    Meter {
+        credit: 0,
+        mark: false,
+        count: 0,
+    }
+}
+
+pub fn meter_fits(m: Meter, burst: u16) -> bool
+    ensures { λ r. ⌜ r ≡ meterFitsOf m burst ⌝ }
+{
+    (m.credit <= burst) & (m.count <= GREATEST_COUNT)
+}
+
+// The meter as service 3 comes into force.
+pub fn granted(m: Meter, burst: u16) -> Meter
+    ensures { λ r. ⌜ r ≡ grantedOf m burst ⌝ }
+{
+    Meter {
+        credit: burst,
+        mark: m.mark,
+        count: m.count,
+    }
+}
+
+// The sum is tested before it is made, since it may not fit.
+pub fn refilled(credit: u16, burst: u16, refill: u16) -> u16
+    ensures { λ r. ⌜ r ≡ refilledOf credit burst refill ⌝ }
+{
+    if credit <= burst {
+        if refill <= burst - credit {
+            credit + refill
+        } else {
+            burst
+        }
+    } else {
+        burst
+    }
+}
+
+pub fn ticked(m: Meter, burst: u16, refill: u16) -> Meter
+    ensures { λ r. ⌜ r ≡ tickedOf m burst refill ⌝ }
+{
+    Meter {
+        credit: refilled(m.credit, burst, refill),
+        mark: false,
+        count: m.count,
+    }
+}
+
+// A message that service 3 pays for, or that is dropped for credit.
+pub fn under_three(m: Meter) -> Passage
+    ensures { λ r. ⌜ r ≡ underThreeOf m ⌝ }
+{
+    if 0 < m.credit {
+        Passage::Three(Meter {
+            credit: m.credit - 1,
+            mark: m.mark,
+            count: m.count,
+        })
+    } else {
+        if m.mark {
+            Passage::Spent
+        } else {
+            Passage::Marks(Meter {
+                credit: m.credit,
+                mark: true,
+                count: m.count,
+            })
+        }
+    }
+}
+
+// The count of service 2 is tried first, and then the credit of service 3.
+pub fn passage_of(m: Meter, two: bool, three: bool) -> Passage
+    ensures { λ r. ⌜ r ≡ passageOf m two three ⌝ }
+{
+    if two {
+        if m.count < GREATEST_COUNT {
+            Passage::Two(Meter {
+                credit: m.credit,
+                mark: m.mark,
+                count: m.count + 1,
+            })
+        } else {
+            if three {
+                under_three(m)
+            } else {
+                Passage::Spent
+            }
+        }
+    } else {
+        if three {
+            under_three(m)
+        } else {
+            Passage::Unserved
+        }
+    }
+}
+
+// The meter after a message: a message that is only dropped changes nothing.
+pub fn after(m: Meter, p: Passage) -> Meter
+    ensures { λ r. ⌜ r ≡ afterOf m p ⌝ }
+{
+    match p {
+        Passage::Two(n) => n,
+        Passage::Three(n) => n,
+        Passage::Marks(n) => n,
+        Passage::Spent => m,
+        Passage::Unserved => m,
+    }
+}

@@ -1,0 +1,9 @@
+pub mod Conditions
+pub mod Decide
+pub mod Edges
+pub mod Heard
+pub mod Notes
+pub mod Numbers
+pub mod Refusals
+pub mod Seen
+pub mod Sound

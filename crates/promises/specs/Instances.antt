@@ -1,0 +1,137 @@
+-- Every number and every note is met, so that no condition of the tables is void and no promise holds for want of cases.
+use Prim.Native.Nat.{ℕ}
+use mathlib.Core.List.{List, [], _∷_, _++_}
+use mathlib.Core.Bool.{true, false}
+use mathlib.Core.Path.{_≡_}
+use Rattle.service.specs.declared.cause.Cause.{Cause}
+use Rattle.service.specs.declared.standing.Given.{Given}
+use Rattle.service.specs.declared.standing.Request.{Request}
+use Rattle.service.specs.declared.standing.Standing.{Standing}
+use Rattle.rules.specs.declared.asking.What.{What}
+use Rattle.rules.specs.declared.message.Kind.{Kind}
+use Rattle.rules.specs.declared.phase.Phase.{Phase}
+use Rattle.rules.specs.declared.side.Side.{Side}
+use Rattle.rules.specs.Answer.{numberOf}
+use Rattle.call.specs.declared.Call.{Call}
+use Rattle.call.specs.declared.Event.{Event}
+use Rattle.call.specs.Sound.{freshCall}
+use Rattle.call.specs.Step.{stepOf}
+use Rattle.promises.specs.Numbers.{Live}
+use Rattle.promises.specs.Sound.{Offered, runOf}
+use Rattle.promises.specs.Edges.{nothing, message, Outcome, Case, AllHold, elementOf, rights, setup, silent, says}
+
+-- an event without an element
+abbrev pub bare : Event → Offered
+bare e = record { event = e; element = [] }
+
+-- a call in Active, with service 3 in force and two credits each way, and one with no service
+abbrev pub served : List Offered
+served =
+    setup 7 Request.Unasked Request.Unasked Request.Preferred 131 []
+    ∷ bare (Event.Connect (record { one = Given.Silent; two = Given.Silent; three = Given.Accepted }))
+    ∷ []
+
+abbrev pub unserved : List Offered
+unserved = setup 7 Request.Unasked Request.Unasked Request.Unasked 131 [] ∷ bare (Event.Connect silent) ∷ []
+
+-- a number, a note and a phase, with nothing sent
+abbrev pub quietly : ℕ → ℕ → Phase → Outcome
+quietly n note p = record { answer = n; note = note; phase = p; calling = nothing; called = nothing }
+
+abbrev pub instances : List Case
+instances =
+    record { before = served; event = bare Event.Tick; gives = quietly 0 0 Phase.Active }
+    ∷ record { before = []; event = bare (Event.Alerting silent); gives = quietly 11 0 Phase.Fresh }
+    ∷ record { before = served; event = bare Event.CallProceeding; gives = quietly 12 0 Phase.Active }
+    ∷ record { before = unserved; event = says Side.Called; gives = quietly 13 0 Phase.Active }
+    ∷ record {
+      before = served ++ (says Side.Called ∷ says Side.Called ∷ []);
+      event = says Side.Called;
+      gives =
+          record {
+            answer = 14;
+            note = 0;
+            phase = Phase.Active;
+            calling = nothing;
+            called = message Kind.CongestionControl (Cause.Value 43) false;
+          };
+    }
+    ∷ record {
+      before = served ++ (says Side.Called ∷ says Side.Called ∷ says Side.Called ∷ []);
+      event = says Side.Called;
+      gives = quietly 14 0 Phase.Active;
+    }
+    ∷ record {
+      before = unserved ++ (bare (Event.Facility Side.Calling What.Preferred) ∷ []);
+      event = bare (Event.Facility Side.Calling What.Preferred);
+      gives = quietly 15 0 Phase.Active;
+    }
+    ∷ record {
+      before = unserved;
+      event = bare (Event.Facility Side.Called What.Preferred);
+      gives =
+          record {
+            answer = 16;
+            note = 0;
+            phase = Phase.Active;
+            calling = nothing;
+            called = message Kind.Facility Cause.Absent false;
+          };
+    }
+    ∷ record { before = served; event = bare (Event.Information Side.Calling true); gives = quietly 17 0 Phase.Active }
+    ∷ record {
+      before = served;
+      event = record { event = Event.Information Side.Calling true; element = elementOf 2 };
+      gives = quietly 17 1 Phase.Active;
+    }
+    ∷ record {
+      before = served;
+      event = record { event = Event.Information Side.Calling true; element = elementOf 132 };
+      gives = quietly 17 2 Phase.Active;
+    }
+    ∷ record { before = served; event = bare (Event.Facility Side.Called What.Required); gives = quietly 18 0 Phase.Active }
+    ∷ record {
+      before = served;
+      event = bare (Event.Disconnect Side.Calling 128 silent);
+      gives = quietly 24 0 Phase.Active;
+    }
+    ∷ record {
+      before = served;
+      event = record { event = Event.Disconnect Side.Calling 16 silent; element = elementOf 4 };
+      gives =
+          record {
+            answer = 0;
+            note = 3;
+            phase = Phase.Clearing;
+            calling = nothing;
+            called = message Kind.Disconnect (Cause.Value 16) false;
+          };
+    }
+    ∷ []
+
+-- INSTANCES. Runs that are answered each number but 25, and have each note.
+abbrev pub Instances : Type 0
+Instances = AllHold instances
+
+-- a run that ends live, as the promise of sound records asks
+abbrev pub Reached : Type 0
+Reached = Live (runOf freshCall served .phase)
+
+-- a record that no run leads to: one credit more than X
+abbrev pub broken : Call
+broken =
+    record {
+      reference = 5;
+      rights = rights 7 131;
+      phase = Phase.Active;
+      standings = record { one = Standing.Closed; two = Standing.Closed; three = Standing.InForce };
+      asking = record { calling = false; called = false };
+      meters =
+          record {
+            calling = record { credit = 3; mark = false; count = 0 };
+            called = record { credit = 2; mark = false; count = 0 };
+          };
+    }
+
+abbrev pub Broken : Type 0
+Broken = numberOf (stepOf broken Event.Tick [] .answer) ≡ 25

@@ -1,0 +1,6 @@
+pub mod Edges
+pub mod Instances
+pub mod Notes
+pub mod Numbers
+pub mod Refusals
+pub mod Sound

@@ -1,0 +1,31 @@
+-- Numbers given back by a call.
+use Prim.Native.Nat.{ℕ}
+use mathlib.Core.Bool.{Bool, true, false}
+use Rattle.rules.specs.declared.answer.Answer.{Answer}
+
+-- the paper's number of each answer
+abbrev pub numberOf : Answer → ℕ
+numberOf Answer.Taken = 0
+numberOf Answer.OutOfPhase = 11
+numberOf Answer.NotAnEvent = 12
+numberOf Answer.NoService = 13
+numberOf Answer.Spent = 14
+numberOf Answer.NotOpen = 15
+numberOf Answer.NotGranted = 16
+numberOf Answer.BadElement = 17
+numberOf Answer.AskedRequired = 18
+numberOf Answer.OutOfRange = 24
+numberOf Answer.Unsound = 25
+
+abbrev pub takenOf : Answer → Bool
+takenOf Answer.Taken = true
+takenOf Answer.OutOfPhase = false
+takenOf Answer.NotAnEvent = false
+takenOf Answer.NoService = false
+takenOf Answer.Spent = false
+takenOf Answer.NotOpen = false
+takenOf Answer.NotGranted = false
+takenOf Answer.BadElement = false
+takenOf Answer.AskedRequired = false
+takenOf Answer.OutOfRange = false
+takenOf Answer.Unsound = false

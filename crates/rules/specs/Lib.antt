@@ -1,0 +1,6 @@
+pub mod Phase
+pub mod Message
+pub mod Side
+pub mod Answer
+pub mod Serving
+pub mod Asking

@@ -1,0 +1,4 @@
+pub mod Cause
+pub mod Element
+pub mod Rights
+pub mod Standing
