@@ -3,10 +3,3 @@ pub mod Noting
 pub mod Turns
 pub mod Heading
 pub mod Lying
-pub mod Ranges
-pub mod Cases
-pub mod Table
-pub mod Whole
-pub mod Range
-pub mod Trip
-pub mod Promises

@@ -2,6 +2,4 @@ pub mod Kind
 pub mod Elements
 pub mod Reading
 pub mod Scan
-pub mod Writing
 pub mod Numbers
-pub mod Promises

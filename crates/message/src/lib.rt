@@ -1,5 +1,4 @@
-// Whole messages, read and written: octets to fields, and back.
+// Whole messages: what their octets say. `writer` has the way back.
 pub mod fields;
 pub mod kind;
 pub mod reader;
-pub mod writer;

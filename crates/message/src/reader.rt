@@ -46,17 +46,17 @@ enum End {
 }
 
 // Whether a Cause element was met, and what the first one says.
-enum Seen {
+pub enum Seen {
     Unseen,
     First(Cause),
 }
 
 // What the scan has found so far.
-struct Found {
-    single: Single,
-    cause: Seen,
-    facility: Facilities,
-    user: Place,
+pub struct Found {
+    pub single: Single,
+    pub cause: Seen,
+    pub facility: Facilities,
+    pub user: Place,
 }
 
 fn wide(x: u8) -> usize

@@ -1,0 +1,6 @@
+pub mod Cases
+pub mod Table
+pub mod Whole
+pub mod Range
+pub mod Trip
+pub mod Promises

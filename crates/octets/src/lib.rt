@@ -1,0 +1,1 @@
+// No code: what is promised of messages read and written, as statements in `specs/`, and their proofs.

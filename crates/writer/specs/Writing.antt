@@ -1,0 +1,120 @@
+-- The octets of a message that is written.
+use Prim.Native.Nat.{ℕ, _+_, _-_, _/_, _%_}
+use mathlib.Core.List.{List, [], _∷_, _++_}
+use mathlib.Core.Bool.{Bool, true, false, cond, _&&_}
+use lib.ListN.{length, getD}
+use lib.Dec.{ltb, eqb}
+use Rattle.component.specs.declared.cause.Cause.{Cause}
+use Rattle.component.specs.Cause.{causeFits, causeOctets}
+use Rattle.component.specs.Facility.{componentFits, facilityOctets}
+use Rattle.message.specs.declared.kind.Kind.{Kind}
+use Rattle.message.specs.declared.fields.Width.{Width}
+use Rattle.message.specs.declared.fields.Single.{Single}
+use Rattle.message.specs.declared.fields.Facilities.{Facilities}
+use Rattle.message.specs.declared.fields.Header.{Header}
+use Rattle.message.specs.declared.fields.Message.{Message}
+use Rattle.message.specs.Kind.{kindOctet}
+
+-- seven bits of the reference, with the flag as the top bit
+abbrev pub topOf : Bool → ℕ → ℕ
+topOf true r = r % 128 + 128
+topOf false r = r % 128
+
+-- the reference length and the reference
+abbrev pub referenceOctets : Width → Bool → ℕ → List ℕ
+referenceOctets Width.One flag r = 1 ∷ topOf flag r ∷ []
+referenceOctets Width.Two flag r = 2 ∷ topOf flag (r / 256) ∷ r % 256 ∷ []
+
+-- "A message is 08, the reference length (1 or 2), the reference, the type, the elements."
+abbrev pub headerOctets : Header → List ℕ
+headerOctets h = 8 ∷ (referenceOctets (h .width) (h .flag) (h .reference) ++ (kindOctet (h .kind) ∷ []))
+
+abbrev pub headerSize : Width → ℕ
+headerSize Width.One = 4
+headerSize Width.Two = 5
+
+abbrev pub singleOctets : Single → List ℕ
+singleOctets Single.Absent = []
+singleOctets Single.MoreData = 0xA0 ∷ []
+singleOctets Single.Ready = 0xB0 ∷ []
+singleOctets Single.NotReady = 0xBF ∷ []
+
+abbrev pub causesOctets : Cause → List ℕ
+causesOctets Cause.Absent = []
+causesOctets (Cause.Value v) = causeOctets v
+
+-- "at most three Facility elements, in the order given"
+abbrev pub facilitiesOctets : Facilities → List ℕ
+facilitiesOctets Facilities.Zero = []
+facilitiesOctets (Facilities.One a) = facilityOctets a
+facilitiesOctets (Facilities.Two a b) = facilityOctets a ++ facilityOctets b
+facilitiesOctets (Facilities.Three a b c) = facilityOctets a ++ facilityOctets b ++ facilityOctets c
+
+-- "The writer puts the single octet first, then Cause, Facility, User-user"
+unfoldable pub frontOctets : Message → List ℕ
+frontOctets w = headerOctets (w .header) ++ singleOctets (w .single) ++ causesOctets (w .cause) ++ facilitiesOctets (w .facility)
+
+unfoldable pub messageOctets : Message → List ℕ → List ℕ
+messageOctets w user = frontOctets w ++ user
+
+-- "references 0 to 127 or to 32767 by length"
+abbrev pub referenceFits : Width → ℕ → Bool
+referenceFits Width.One r = ltb r 128
+referenceFits Width.Two r = ltb r 32768
+
+-- no single octet; none or More data; a congestion level
+abbrev pub plainFits : Single → Bool
+plainFits Single.Absent = true
+plainFits Single.MoreData = false
+plainFits Single.Ready = false
+plainFits Single.NotReady = false
+
+abbrev pub moreFits : Single → Bool
+moreFits Single.Absent = true
+moreFits Single.MoreData = true
+moreFits Single.Ready = false
+moreFits Single.NotReady = false
+
+abbrev pub levelFits : Single → Bool
+levelFits Single.Absent = false
+levelFits Single.MoreData = false
+levelFits Single.Ready = true
+levelFits Single.NotReady = true
+
+-- "More data belongs to USER INFORMATION only, and a congestion level to CONGESTION CONTROL, where the writer demands it;
+-- elsewhere the writer gives 7"
+abbrev pub singleFits : Kind → Single → Bool
+singleFits Kind.Alerting s = plainFits s
+singleFits Kind.CallProceeding s = plainFits s
+singleFits Kind.Setup s = plainFits s
+singleFits Kind.Connect s = plainFits s
+singleFits Kind.UserInformation s = moreFits s
+singleFits Kind.Disconnect s = plainFits s
+singleFits Kind.ReleaseComplete s = plainFits s
+singleFits Kind.Facility s = plainFits s
+singleFits Kind.CongestionControl s = levelFits s
+
+abbrev pub causesFit : Cause → Bool
+causesFit Cause.Absent = true
+causesFit (Cause.Value v) = causeFits v
+
+abbrev pub facilitiesFit : Facilities → Bool
+facilitiesFit Facilities.Zero = true
+facilitiesFit (Facilities.One a) = componentFits a
+facilitiesFit (Facilities.Two a b) = componentFits a && componentFits b
+facilitiesFit (Facilities.Three a b c) = (componentFits a && componentFits b) && componentFits c
+
+-- "elements 2 to 131 octets beginning 7E and the length less 2"; no octets at all is an absent element
+unfoldable pub userFits : List ℕ → Bool
+userFits u =
+    cond (eqb (length u) 0) true
+    (cond (ltb (length u) 2) false
+    (cond (ltb 131 (length u)) false
+    (cond (eqb (getD u 0 0) 0x7E) (eqb (getD u 1 0) (length u - 2)) false)))
+
+-- 7 "a field out of range", otherwise
+unfoldable pub messageFits : Message → List ℕ → Bool
+messageFits w user =
+    (((referenceFits (w .header .width) (w .header .reference) && singleFits (w .header .kind) (w .single)) && causesFit (w .cause))
+    && facilitiesFit (w .facility))
+    && userFits user
