@@ -1,0 +1,93 @@
+-- A capture: "messages end to end, each after its length in two octets, high octet first".
+use Prim.Native.Nat.{ℕ, zero, suc, _+_, _-_, _*_, min}
+use mathlib.Core.List.{List, [], _∷_, _++_}
+use mathlib.Core.Bool.{cond}
+use mathlib.Core.Path.{_≡_}
+use lib.ListN.{length, getD, take, drop}
+use lib.Dec.{leb, eqb}
+use Rattle.component.specs.Room.{placed}
+use Rattle.capture.specs.declared.frames.Done.{Done}
+use Rattle.line.specs.Line.{lineOf}
+
+-- a message, and the offset of its first octet
+pub record Frame : Type 0 where
+  pub at : ℕ
+  pub octets : List ℕ
+
+-- An offset is a number of 64 bits. One that would be larger stays at the largest: the lines go on, and say so.
+unfoldable pub laterOf : ℕ → ℕ → ℕ
+laterOf offset n = min (offset + n) 18446744073709551615
+
+-- the length that a capture begins with
+unfoldable pub sizeOf : List ℕ → ℕ
+sizeOf c = getD c 0 0 * 256 + getD c 1 0
+
+-- the whole messages at the front of a piece of capture that starts at an offset: the first of them, and at most k - 1 more
+unfoldable pub framesIn : ℕ → ℕ → List ℕ → List Frame
+framesIn zero offset c = []
+framesIn (suc k) offset c =
+    cond (leb (2 + sizeOf c) (length c))
+    (record { at = laterOf offset 2; octets = take (sizeOf c) (drop 2 c) } ∷ framesIn k (laterOf offset (2 + sizeOf c)) (drop (2 + sizeOf c) c))
+    []
+
+-- all of them: there are no more messages than octets
+unfoldable pub framesOf : ℕ → List ℕ → List Frame
+framesOf offset c = framesIn (length c) offset c
+
+abbrev pub lineAt : Frame → List ℕ
+lineAt f = lineOf (f .at) (f .octets)
+
+-- "then a line a message"
+unfoldable pub linesOf : List Frame → List ℕ
+linesOf [] = []
+linesOf (f ∷ fs) = lineAt f ++ linesOf fs
+
+-- the first of them, as many as have lines that fit into so many octets
+unfoldable pub fitting : List Frame → ℕ → List Frame
+fitting [] room = []
+fitting (f ∷ fs) room = cond (leb (length (lineAt f)) room) (f ∷ fitting fs (room - length (lineAt f))) []
+
+-- how many octets of the capture they are, with their lengths
+unfoldable pub spanOf : List Frame → ℕ
+spanOf [] = 0
+spanOf (f ∷ fs) = 2 + length (f .octets) + spanOf fs
+
+-- what is worked off of a piece of capture that starts at an offset, into a buffer l
+unfoldable pub workedOff : List ℕ → ℕ → List ℕ → List Frame
+workedOff c offset l = fitting (framesOf offset c) (length l)
+
+-- the answer r, and the buffer l' that is left: the lines, and after them the octets that stood there
+pub record Digested (c : List ℕ) (offset : ℕ) (l l' : List ℕ) (r : Done) : Type 0 where
+  pub used : r .used ≡ spanOf (workedOff c offset l)
+  pub wrote : r .wrote ≡ length (linesOf (workedOff c offset l))
+  pub buffer : l' ≡ placed 0 (linesOf (workedOff c offset l)) l
+
+-- "First line exactly `at number type flag ref cause single facility element`"
+abbrev pub firstLine : List ℕ
+firstLine =
+    97 ∷ 116 ∷ 32
+    ∷ 110 ∷ 117 ∷ 109 ∷ 98 ∷ 101 ∷ 114 ∷ 32
+    ∷ 116 ∷ 121 ∷ 112 ∷ 101 ∷ 32
+    ∷ 102 ∷ 108 ∷ 97 ∷ 103 ∷ 32
+    ∷ 114 ∷ 101 ∷ 102 ∷ 32
+    ∷ 99 ∷ 97 ∷ 117 ∷ 115 ∷ 101 ∷ 32
+    ∷ 115 ∷ 105 ∷ 110 ∷ 103 ∷ 108 ∷ 101 ∷ 32
+    ∷ 102 ∷ 97 ∷ 99 ∷ 105 ∷ 108 ∷ 105 ∷ 116 ∷ 121 ∷ 32
+    ∷ 101 ∷ 108 ∷ 101 ∷ 109 ∷ 101 ∷ 110 ∷ 116 ∷ 10 ∷ []
+
+-- "A capture that ends inside a length or a message prints `cut` as its last line": so many octets are left
+unfoldable pub lastLine : ℕ → List ℕ
+lastLine left = cond (eqb left 0) [] (99 ∷ 117 ∷ 116 ∷ 10 ∷ [])
+
+-- what is printed of a whole capture; "An empty capture prints the first line alone."
+unfoldable pub printedOf : List ℕ → List ℕ
+printedOf c = firstLine ++ linesOf (framesOf 0 c) ++ lastLine (length c - spanOf (framesOf 0 c))
+
+-- the octets of a buffer from a place to another; none where the places do not lie in it
+unfoldable pub keptOf : ℕ → ℕ → List ℕ → List ℕ
+keptOf from to l = cond (leb from to) (cond (leb to (length l)) (take (to - from) (drop from l)) []) []
+
+-- the answer r, and the buffer l' that is left: those octets at its front
+pub record Kept (from to : ℕ) (l l' : List ℕ) (r : ℕ) : Type 0 where
+  pub count : r ≡ length (keptOf from to l)
+  pub buffer : l' ≡ placed 0 (keptOf from to l) l

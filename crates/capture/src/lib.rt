@@ -1,0 +1,2 @@
+// What is printed of a capture of messages: a line a message.
+pub mod frames;

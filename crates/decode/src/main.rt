@@ -1,0 +1,109 @@
+// Prints a capture of messages, a line a message: standard input to standard output, in a fixed amount of memory. What a line
+// says is computed in `capture`; here octets are only read and written.
+use capture::frames::Done;
+use capture::frames::digest;
+use capture::frames::keep;
+use capture::frames::later;
+use capture::frames::write_first;
+use capture::frames::write_last;
+use libc::STDIN_FILENO;
+use libc::STDOUT_FILENO;
+use text::piece::end_of;
+
+// What of the capture is in the buffer and not printed yet: the octets from one place to another, of which the first has an
+// offset in the capture.
+struct Held {
+    from: usize,
+    to: usize,
+    offset: u64,
+    more: bool,
+}
+
+fn send(out: &[u8], n: usize) -> bool {
+    if n > out.len() {
+        return false;
+    }
+    io::write_all(STDOUT_FILENO, &out[0..n])
+}
+
+// Reads once, after the octets that the buffer holds: how many came.
+fn fetch(buf: &mut [u8], held: usize) -> usize {
+    if held >= buf.len() {
+        return 0;
+    }
+    let part = &mut buf[held..];
+    let got = libc::read(STDIN_FILENO, part);
+    io::count(got, part)
+}
+
+fn lines(buf: &[u8], from: usize, to: usize, offset: u64, out: &mut [u8]) -> Done {
+    if from > to {
+        return Done { used: 0, wrote: 0 };
+    }
+    if to > buf.len() {
+        return Done { used: 0, wrote: 0 };
+    }
+    digest(&buf[from..to], offset, out)
+}
+
+// What is held goes to the buffer's front, and more is read after it. Nothing more comes at the capture's end.
+fn refill(buf: &mut [u8], from: usize, to: usize, offset: u64) -> Held {
+    let left = keep(buf, from, to);
+    let got = fetch(buf, left);
+    Held {
+        from: 0,
+        to: std::num::wrapping_add_usize(left, got),
+        offset: offset,
+        more: got > 0,
+    }
+}
+
+// Prints what can be printed of what is held, or reads more.
+fn turn(buf: &mut [u8], out: &mut [u8], h: Held) -> Held {
+    let from = h.from;
+    let to = h.to;
+    let offset = h.offset;
+    let d = lines(buf, from, to, offset, out);
+    let used = d.used;
+    if used == 0 {
+        return refill(buf, from, to, offset);
+    }
+    let sent = send(out, d.wrote);
+    Held {
+        from: std::num::wrapping_add_usize(from, used),
+        to: to,
+        offset: later(offset, used),
+        more: sent,
+    }
+}
+
+fn step(buf: &mut [u8; 262144], out: &mut [u8; 262144], h: Held) -> Held {
+    turn(buf, out, h)
+}
+
+fn first(out: &mut [u8; 262144]) -> bool {
+    let n = end_of(write_first(out, 0));
+    send(out, n)
+}
+
+fn last(out: &mut [u8; 262144], left: usize) -> bool {
+    let n = end_of(write_last(out, 0, left));
+    send(out, n)
+}
+
+fn main() {
+    let mut buf = [0u8; 262144];
+    let mut out = [0u8; 262144];
+    let mut h = Held {
+        from: 0,
+        to: 0,
+        offset: 0,
+        more: first(&mut out),
+    };
+    let mut turns = u64::MAX;
+    while turns > 0 && h.more {
+        h = step(&mut buf, &mut out, h);
+        turns -= 1;
+    }
+    last(&mut out, h.to);
+}

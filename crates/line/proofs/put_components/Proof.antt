@@ -1,0 +1,92 @@
+use native.Mathlib.Omega.{arith}
+use Rattle.text.proofs.Pieced.{spelled, two}
+use Rattle.line.proofs.Joined.{three-texts}
+use borrow.Author.Needs.{needs}
+use Rattle.line.proofs.put_components.Statement.{statement}
+use Rattle.line.proofs.put_components.Tie as tie
+
+enum-told : tie.Need-enum-told
+enum-told c = search needs
+
+slice-aggregate-put : tie.Need-slice-aggregate-put
+slice-aggregate-put c = search needs
+
+put-requires : tie.Need-put-requires
+put-requires c κs = search needs
+
+enum-known-f : tie.Need-enum-known-f
+enum-known-f c = search needs
+
+put-component-requires : tie.Need-put-component-requires
+put-component-requires c κs = search needs
+
+enum-known-f-2 : tie.Need-enum-known-f-2
+enum-known-f-2 c = search needs
+
+put-component-requires-2 : tie.Need-put-component-requires-2
+put-component-requires-2 c κs = search needs
+
+put-more-requires : tie.Need-put-more-requires
+put-more-requires c κs = search needs
+
+enum-known-f-3 : tie.Need-enum-known-f-3
+enum-known-f-3 c = search needs
+
+put-component-requires-3 : tie.Need-put-component-requires-3
+put-component-requires-3 c κs = search needs
+
+put-more-requires-2 : tie.Need-put-more-requires-2
+put-more-requires-2 c κs = search needs
+
+put-more-requires-3 : tie.Need-put-more-requires-3
+put-more-requires-3 c κs = search needs
+
+same-length : tie.Need-same-length
+same-length c = search needs
+
+returns : tie.Need-returns
+returns c = spelled (simp (c .before .before .before .before .before .enum-told .given .1)) (omega arith) (c .before .before .put .ensures)
+
+same-length-2 : tie.Need-same-length-2
+same-length-2 c = search needs
+
+returns-2 : tie.Need-returns-2
+returns-2 c = spelled (simp (c .before .before .before .before .before .f .given .1)) (omega arith) (c .before .before .put-component .ensures)
+
+same-length-3 : tie.Need-same-length-3
+same-length-3 c = search needs
+
+returns-3 : tie.Need-returns-3
+returns-3 c = spelled (simp (c .before .before .before .before .before .before .before .before .before .f2 .given .1)) (omega arith) (two (omega arith) (c .before .before .before .before .before .before .put-component2 .ensures) (c .before .before .put-more .ensures))
+
+same-length-4 : tie.Need-same-length-4
+same-length-4 c = search needs
+
+returns-4 : tie.Need-returns-4
+returns-4 c = spelled (simp (c .before .before .before .before .before .before .before .before .before .before .before .before .before .f3 .given .1)) (omega arith)
+    (three-texts (c .before .before .before .before .before .before .before .before .before .before .before .before .before .before .before .before .pre) (c .before .before .before .before .before .before .before .before .before .before .put-component3 .ensures) (c .before .before .before .before .before .before .put-more2 .ensures) (c .before .before .put-more3 .ensures))
+
+pub put-components-spec : {M : Type 1} → statement M
+put-components-spec =
+    tie.close
+    (tie.spec
+    enum-told
+    slice-aggregate-put
+    put-requires
+    enum-known-f
+    put-component-requires
+    enum-known-f-2
+    put-component-requires-2
+    put-more-requires
+    enum-known-f-3
+    put-component-requires-3
+    put-more-requires-2
+    put-more-requires-3
+    same-length
+    returns
+    same-length-2
+    returns-2
+    same-length-3
+    returns-3
+    same-length-4
+    returns-4)

@@ -1,0 +1,26 @@
+use native.Mathlib.Omega.{arith}
+use Rattle.text.proofs.Pieced.{spelled, two}
+use mathlib.Core.Path.{refl}
+use borrow.Author.Needs.{needs}
+use Rattle.line.proofs.put_facility.Statement.{statement}
+use Rattle.line.proofs.put_facility.Tie as tie
+
+slice-aggregate-put : tie.Need-slice-aggregate-put
+slice-aggregate-put c = search needs
+
+put-requires : tie.Need-put-requires
+put-requires c κs = search needs
+
+put-components-requires : tie.Need-put-components-requires
+put-components-requires c κs = search needs
+
+same-length : tie.Need-same-length
+same-length c = search needs
+
+returns : tie.Need-returns
+returns c = spelled refl (omega arith) (two (omega arith) (c .before .before .before .before .before .before .put .ensures) (c .before .before .put-components .ensures))
+
+pub put-facility-spec : {M : Type 1} → statement M
+put-facility-spec =
+    tie.close
+    (tie.spec slice-aggregate-put put-requires put-components-requires same-length returns)

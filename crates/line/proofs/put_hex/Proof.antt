@@ -1,0 +1,20 @@
+use native.Mathlib.Omega.{arith}
+use Rattle.text.proofs.Pieced.{settled}
+use borrow.Author.Needs.{needs}
+use Rattle.line.proofs.put_hex.Statement.{statement}
+use Rattle.line.proofs.put_hex.Tie as tie
+
+write-hex-requires : tie.Need-write-hex-requires
+write-hex-requires c κs = search needs
+
+end-of-requires : tie.Need-end-of-requires
+end-of-requires c κs = search needs
+
+same-length : tie.Need-same-length
+same-length c = search needs
+
+returns : tie.Need-returns
+returns c = settled (c .before .before .before .before .before .before .pre) (omega arith) (c .before .before .before .write-hex .ensures) (c .end-of .ensures)
+
+pub put-hex-spec : {M : Type 1} → statement M
+put-hex-spec = tie.close (tie.spec write-hex-requires end-of-requires same-length returns)

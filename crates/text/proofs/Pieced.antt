@@ -1,0 +1,96 @@
+-- A piece after a piece.
+use Prim.Native.Nat.{ℕ, _+_, _-_, _<_, _≤_}
+use mathlib.Core.List.{List, [], _++_, append-assoc}
+use mathlib.Core.Bool.{Bool, true, false, cond}
+use mathlib.Core.Path.{_≡_, refl, ap, _∙_}
+use native.Mathlib.Omega.{arith}
+use native.Mathlib.Nat.{add-assoc}
+use borrow.Author.Tests.{le-leb, leb-true, leb-false}
+use lib.Dec.{leb}
+use lib.ListN.{length, take, drop, length-append, length-drop}
+use lib.Seq.{length-take-le, take-at, drop-append-add, drop-drop, paste-zero, take-append-seam}
+use Rattle.component.specs.declared.room.Bar.{Bar}
+use Rattle.component.specs.declared.room.Wrote.{Wrote}
+use Rattle.component.specs.Room.{placed, wroteOf, leftOf, Written}
+use Rattle.text.specs.Pieces.{endOf, Piece}
+
+module _ (at : ℕ) (p l : List ℕ) (fits : at + length p ≤ length l) where
+  front : length (take at l ++ p) ≡ at + length p
+  front = simp (length-append, length-take-le at l (omega arith))
+
+  pub length-placed : length (placed at p l) ≡ length l
+  unfolding placed
+  length-placed = simp (length-append, length-take-le at l (omega arith), length-drop) (omega arith)
+
+  pub placed-then : (q : List ℕ) → placed (at + length p) q (placed at p l) ≡ placed at (p ++ q) l
+  unfolding placed
+  placed-then q =
+      rw (
+        take-at (take at l ++ p) (drop (at + length p) l) (at + length p) front,
+        ← front,
+        drop-append-add (take at l ++ p) (drop (length (take at l ++ p)) l) (length q),
+        front,
+        drop-drop,
+        length-append p q,
+        append-assoc (take at l) p q,
+        add-assoc at (length p) (length q),
+      ) refl
+
+-- what was written where there is room for it is a piece
+pub settled : {most at r : ℕ} {p l l' : List ℕ} {w : Wrote} → at + most ≤ length l → length p ≤ most → Written true at p l l' w → r ≡ endOf w → Piece most at p l l' r
+unfolding wroteOf leftOf
+settled {most} {at} {r} {p} {l} {l'} {w} h k v e =
+    let t = le-leb (at + length p) (length l) (omega arith) in
+    record { end = e ∙ ap endOf (v .answer) ∙ simp t; octets = v .buffer ∙ simp t; small = k }
+
+-- no octets
+pub no-piece : {at : ℕ} {l : List ℕ} → Piece 0 at [] l l at
+unfolding placed
+no-piece {at} {l} = record { end = omega arith; octets = paste-zero l at []; small = omega arith }
+
+-- two pieces
+pub two : {m k at r s : ℕ} {p q l l' l'' : List ℕ} → at + (m + k) ≤ length l → Piece m at p l l' r → Piece k r q l' l'' s → Piece (m + k) at (p ++ q) l l'' s
+two {m} {k} {at} {r} {s} {p} {q} {l} {l'} {l''} h a b =
+    let c = a .small in
+    let d = b .small in
+    record {
+      end = b .end ∙ simp (a .end, length-append) (omega arith);
+      octets = b .octets ∙ rw (a .octets, a .end) (placed-then at p l (omega arith) q);
+      small = simp length-append (omega arith);
+    }
+
+-- a buffer with a piece in it is as long
+pub piece-length : {m at r : ℕ} {p l l' : List ℕ} → at + m ≤ length l → Piece m at p l l' r → length l' ≡ length l
+piece-length {m} {at} {r} {p} {l} h a = let c = a .small in rw (a .octets) (length-placed at p l (omega arith))
+
+-- a looser bound
+pub wider : {m k at r : ℕ} {p l l' : List ℕ} → m ≤ k → Piece m at p l l' r → Piece k at p l l' r
+wider h a = let c = a .small in record { end = a .end; octets = a .octets; small = omega arith }
+
+-- the same octets, spelled otherwise, under a looser bound
+pub spelled : {m k at r : ℕ} {p q l l' : List ℕ} → p ≡ q → m ≤ k → Piece m at p l l' r → Piece k at q l l' r
+spelled {m} {k} {at} {r} {p} {q} {l} {l'} e h a = rw (← e) (wider h a)
+
+-- a piece that starts a buffer is what stands before its end
+pub at-start : {m r : ℕ} {p l l' : List ℕ} → Piece m 0 p l l' r → take (r - 0) (drop 0 l') ≡ p
+unfolding placed
+at-start {m} {r} {p} {l} {l'} a =
+    let e : r - 0 ≡ length p = omega (arith, a .end) in
+    rw (e, a .octets) (take-append-seam p (drop (0 + length p) l))
+
+-- what an answer says of the room
+answered : (t : Bool) (at : ℕ) (p l : List ℕ) {e : ℕ} {l' : List ℕ} → leb (at + length p) (length l) ≡ t → Wrote.To e ≡ cond t (Wrote.To (at + length p)) (Wrote.Refused Bar.Room) → l' ≡ cond t (placed at p l) l → (at + length p ≤ length l) × (e ≡ at + length p) × (l' ≡ placed at p l)
+answered true at p l h a b = (leb-true _ _ h, cc, b)
+answered false at p l h a b = let z : _≡_ {A = ℕ} 0 1 = cc in absurd (omega arith)
+
+declined : (t : Bool) (at : ℕ) (p l : List ℕ) {b : Bar} {l' : List ℕ} → leb (at + length p) (length l) ≡ t → Wrote.Refused b ≡ cond t (Wrote.To (at + length p)) (Wrote.Refused Bar.Room) → l' ≡ cond t (placed at p l) l → (length l < at + length p) × (l' ≡ l)
+declined true at p l h a b = let z : _≡_ {A = ℕ} 0 1 = cc in absurd (omega arith)
+declined false at p l h a b = (leb-false _ _ h, b)
+
+pub took : {at e : ℕ} {p l l' : List ℕ} → Written true at p l l' (Wrote.To e) → (at + length p ≤ length l) × (e ≡ at + length p) × (l' ≡ placed at p l)
+unfolding wroteOf leftOf
+took {at} {e} {p} {l} w = answered (leb (at + length p) (length l)) at p l refl (w .answer) (w .buffer)
+
+pub refused : {at : ℕ} {b : Bar} {p l l' : List ℕ} → Written true at p l l' (Wrote.Refused b) → (length l < at + length p) × (l' ≡ l)
+unfolding wroteOf leftOf
+refused {at} {b} {p} {l} w = declined (leb (at + length p) (length l)) at p l refl (w .answer) (w .buffer)
