@@ -3,6 +3,7 @@ use component::facility::Component;
 use component::facility::write_facility;
 use component::room::Bar;
 use component::room::Wrote;
+use component::room::end_of;
 use component::room::write_octets;
 use libc::STDOUT_FILENO;
 use line::write_line;
@@ -13,7 +14,6 @@ use message::reader::part;
 use message::reader::read_message;
 use message::reader::user_user;
 use text::hex::write_hex;
-use text::piece::end_of;
 use writer::write_message;
 
 fn say(text: &[u8]) {

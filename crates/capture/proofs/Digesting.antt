@@ -10,7 +10,8 @@ use lib.Seq.{length-take-le, drop-drop, getD-drop}
 use Rattle.component.specs.declared.room.Bar.{Bar}
 use Rattle.component.specs.declared.room.Wrote.{Wrote}
 use Rattle.component.specs.Room.{placed, Written}
-use Rattle.text.proofs.Pieced.{took, refused, no-piece, length-placed, placed-then}
+use Rattle.component.proofs.Pieces.{length-placed, placed-then}
+use Rattle.text.proofs.Pieced.{took, refused, no-piece}
 use Rattle.line.specs.Line.{lineOf}
 use Rattle.capture.specs.Frames.{Frame, laterOf, sizeOf, framesOf, lineAt, linesOf, fitting, spanOf, workedOff, Digested}
 use Rattle.capture.proofs.Framing.{firstOf, frames-turn, frames-end, later-later, later-none}

@@ -16,11 +16,11 @@ module _ (at : ℕ) (p l : List ℕ) (fits : at + length p ≤ length l) where
   front : length (take at l ++ p) ≡ at + length p
   front = simp (length-append, length-take-le at l (omega arith))
 
-  length-placed : length (placed at p l) ≡ length l
+  pub length-placed : length (placed at p l) ≡ length l
   unfolding placed
   length-placed = simp (length-append, length-take-le at l (omega arith), length-drop) (omega arith)
 
-  placed-then : (q : List ℕ) → placed (at + length p) q (placed at p l) ≡ placed at (p ++ q) l
+  pub placed-then : (q : List ℕ) → placed (at + length p) q (placed at p l) ≡ placed at (p ++ q) l
   unfolding placed
   placed-then q =
       rw (

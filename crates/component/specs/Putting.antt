@@ -6,6 +6,7 @@ use lib.ListN.{length}
 use Rattle.component.specs.declared.room.Wrote.{Wrote}
 use Rattle.component.specs.Room.{placed}
 
+-- where a piece that was written ends
 abbrev pub endOf : Wrote → ℕ
 endOf (Wrote.To n) = n
 endOf (Wrote.Refused b) = 0

@@ -3,6 +3,7 @@ ghost use mathlib.Core.Path.{_≡_};
 ghost use mathlib.Core.Bool.{true};
 ghost use Prim.Native.Nat.{_≤_, _+_};
 ghost use lib.ListN.{length};
+ghost use Rattle.component.specs.Putting.{endOf};
 ghost use Rattle.component.specs.Room.{placed, Written};
 
 // Why nothing was written.
@@ -15,6 +16,16 @@ pub enum Bar {
 pub enum Wrote {
     To(usize),
     Refused(Bar),
+}
+
+// Where the next piece starts; 0 where a piece was refused.
+pub fn end_of(w: Wrote) -> usize
+    ensures { λ r. ⌜ r ≡ endOf w ⌝ }
+{
+    match w {
+        Wrote::To(n) => n,
+        Wrote::Refused(_) => 0,
+    }
 }
 
 // Puts a piece that fits, octet by octet.

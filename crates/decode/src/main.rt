@@ -6,9 +6,9 @@ use capture::frames::keep;
 use capture::frames::later;
 use capture::frames::write_first;
 use capture::frames::write_last;
+use component::room::end_of;
 use libc::STDIN_FILENO;
 use libc::STDOUT_FILENO;
-use text::piece::end_of;
 
 // What of the capture is in the buffer and not printed yet: the octets from one place to another, of which the first has an
 // offset in the capture.
@@ -17,6 +17,7 @@ struct Held {
     to: usize,
     offset: u64,
     more: bool,
+    ended: bool,
 }
 
 fn send(out: &[u8], n: usize) -> bool {
@@ -55,6 +56,7 @@ fn refill(buf: &mut [u8], from: usize, to: usize, offset: u64) -> Held {
         to: std::num::wrapping_add_usize(left, got),
         offset: offset,
         more: got > 0,
+        ended: got == 0,
     }
 }
 
@@ -74,6 +76,7 @@ fn turn(buf: &mut [u8], out: &mut [u8], h: Held) -> Held {
         to: to,
         offset: later(offset, used),
         more: sent,
+        ended: false,
     }
 }
 
@@ -86,7 +89,11 @@ fn first(out: &mut [u8; 262144]) -> bool {
     send(out, n)
 }
 
-fn last(out: &mut [u8; 262144], left: usize) -> bool {
+// After a failure of standard output nothing more is written.
+fn last(out: &mut [u8; 262144], ended: bool, left: usize) -> bool {
+    if !ended {
+        return false;
+    }
     let n = end_of(write_last(out, 0, left));
     send(out, n)
 }
@@ -99,11 +106,12 @@ fn main() {
         to: 0,
         offset: 0,
         more: first(&mut out),
+        ended: false,
     };
     let mut turns = u64::MAX;
     while turns > 0 && h.more {
         h = step(&mut buf, &mut out, h);
         turns -= 1;
     }
-    last(&mut out, h.to);
+    last(&mut out, h.ended, h.to);
 }

@@ -18,6 +18,7 @@ use component::facility::Refusal;
 use component::facility::Service;
 use component::facility::Wish;
 use component::room::Wrote;
+use component::room::end_of;
 use component::room::write_octets;
 use message::fields::Facilities;
 use message::fields::Header;
@@ -30,7 +31,6 @@ use message::reader::Reading;
 use message::reader::read_message;
 use text::decimal::write_decimal;
 use text::hex::write_hex;
-use text::piece::end_of;
 
 fn wide8(x: u8) -> u64
     ensures { λ r. ⌜ r ≡ x ⌝ }

@@ -71,26 +71,28 @@ module _ (c : Call) (r : Reply) (U O A R : Type 0) (rest : Rows) where
   heard-rows true false k e u o a g f = rw e (inr (out u, inr (o, inl (a .so refl, refl))))
   heard-rows false b k e u o a g f = rw e (inl (u .so refl, refl))
 
--- the rows that follow them
-abbrev lastRows : Rows
-lastRows = row ⊥ 18 (row ⊥ 16 (row ⊥ 15 end))
-
-last : (n : ℕ) → n ≡ 0 → First lastRows n
-last n e = inr ((λ x. x), inr ((λ x. x), inr ((λ x. x), e)))
+-- the rows that follow them, and those for FACILITY
+abbrev pub after : Rows → Rows
+after end = end
+after (row P k rows) = rows
 
 abbrev laterRows : Call → Event → List ℕ → Rows
-laterRows c e l =
-    row (n.BadElement c e l) 17
-    (row (n.NoService c e) 13
-    (row (n.Spent c e) 14 (row (n.AskedRequired e) 18 (row (n.NotGranted c e) 16 (row (n.NotOpen c e) 15 end)))))
+laterRows c e l = after (after (after (after (answerRows c e l))))
+
+abbrev lastRows : Call → Event → List ℕ → Rows
+lastRows c e l = after (after (after (laterRows c e l)))
 
 first-rows : (c : Call) (e : Event) (l : List ℕ) (a g : Bool) (r : Reply) → properOf e ≡ true → Denies a (Allowed e (c .phase) → ⊥) → Denies g (OutOfRange e) → First (laterRows c e l) (numberOf (r .answer)) → First (answerRows c e l) (numberOf (heardOf c (barOf c a g) r .answer))
 first-rows c e l a g r o p q f =
     heard-rows c r (Unsound c) (NotAnEvent e) (Allowed e (c .phase)) (OutOfRange e) (laterRows c e l) _ a g refl (unsound c) (proper e o) p q f
 
+-- rows that never apply
+void : {i j k n : ℕ} → n ≡ 0 → First (row ⊥ i (row ⊥ j (row ⊥ k end))) n
+void e = inr ((λ x. x), inr ((λ x. x), inr ((λ x. x), e)))
+
 -- an event that nothing further keeps from being taken
-no-more : (n : ℕ) → n ≡ 0 → First (row ⊥ 17 (row ⊥ 13 (row ⊥ 14 lastRows))) n
-no-more n e = inr ((λ x. x), inr ((λ x. x), inr ((λ x. x), last n e)))
+no-more : {f g h i j k n : ℕ} → n ≡ 0 → First (row ⊥ f (row ⊥ g (row ⊥ h (row ⊥ i (row ⊥ j (row ⊥ k end)))))) n
+no-more e = inr ((λ x. x), inr ((λ x. x), inr ((λ x. x), void e)))
 
 -- USER INFORMATION
 abbrev passageRows : Meter → Type 0 → Type 0 → Rows → Rows
@@ -134,14 +136,18 @@ same-meter : (c : Call) (side : Side) → meterOf (c .meters) side ≡ meterFrom
 same-meter c Side.Calling = refl
 same-meter c Side.Called = refl
 
-carried-rows : (c : Call) (side : Side) (more : Bool) → First (passageRows (meterFrom c side) (ServesTwo c side) (ServesThree c) lastRows) (numberOf (carriedOf c side more (informationPassageOf c side) .answer))
-unfolding carriedOf replyOf informationPassageOf
-carried-rows c side more = rw same-meter (passage-rows (meterFrom c side) _ _ lastRows (last 0 refl) _ _ (serves-two c side) (serves-three c))
+module _ (c : Call) (side : Side) (more : Bool) (l : List ℕ) where
+  abbrev restRows : Rows
+  restRows = lastRows c (Event.Information side more) l
 
-later-information : (c : Call) (side : Side) (more : Bool) (l : List ℕ) {s : Seen} → Sight l (c .rights .limit) s → First (laterRows c (Event.Information side more) l) (numberOf (withElementOf c s (carriedOf c side more (informationPassageOf c side)) .answer))
-later-information c side more l v =
-    element-rows c l (c .rights .limit) (carriedOf c side more (informationPassageOf c side))
-    (passageRows (meterFrom c side) (ServesTwo c side) (ServesThree c) lastRows) v (carried-rows c side more)
+  carried-rows : First (passageRows (meterFrom c side) (ServesTwo c side) (ServesThree c) restRows) (numberOf (carriedOf c side more (informationPassageOf c side) .answer))
+  unfolding carriedOf replyOf informationPassageOf
+  carried-rows = rw same-meter (passage-rows (meterFrom c side) _ _ restRows (void refl) _ _ (serves-two c side) (serves-three c))
+
+  later-information : {s : Seen} → Sight l (c .rights .limit) s → First (laterRows c (Event.Information side more) l) (numberOf (withElementOf c s (carriedOf c side more (informationPassageOf c side)) .answer))
+  later-information v =
+      element-rows c l (c .rights .limit) (carriedOf c side more (informationPassageOf c side))
+      (passageRows (meterFrom c side) (ServesTwo c side) (ServesThree c) restRows) v carried-rows
 
 -- FACILITY
 nand : (a b : Bool) {P Q : Type 0} → Decides a P → Decides b Q → Denies (a && b) ((P → ⊥) ⊎ (Q → ⊥))
@@ -180,9 +186,6 @@ module _ (Required Barred Shut : Type 0) where
   said-rows true n b s = inr (n, inr (b, inl (s .so refl, refl)))
   said-rows false n b s = inr (n, inr (b, inr ((λ x. never (s .back x) refl), refl)))
 
-preferred-only : Request What.Preferred
-preferred-only = inl refl
-
 not-required : What.Preferred ≡ What.Required → ⊥
 not-required e = let z : _≡_ {A = ℕ} 0 1 = cc in omega arith
 
@@ -196,11 +199,12 @@ answer-no-request what a r =
     (λ e. ⊎-elim (λ f. let z : _≡_ {A = ℕ} 0 1 = cc in omega arith) (λ f. let z : _≡_ {A = ℕ} 0 1 = cc in omega arith) r)
     (λ e. ⊎-elim (λ f. let z : _≡_ {A = ℕ} 0 1 = cc in omega arith) (λ f. let z : _≡_ {A = ℕ} 0 1 = cc in omega arith) r) a
 
-module _ (c : Call) (side : Side) where
+module _ (c : Call) (l : List ℕ) (side : Side) where
   abbrev sayRows : What → Rows
-  sayRows what =
-      row (n.AskedRequired (Event.Facility side what)) 18
-      (row (n.NotGranted c (Event.Facility side what)) 16 (row (n.NotOpen c (Event.Facility side what)) 15 end))
+  sayRows what = lastRows c (Event.Facility side what) l
+
+  required-rows : First (sayRows What.Required) 18
+  required-rows = inl (refl, refl)
 
   preferred-rows : First (sayRows What.Preferred) (numberOf (facilityVerdictOf c side What.Preferred))
   unfolding facilityVerdictOf
@@ -225,7 +229,7 @@ module _ (c : Call) (side : Side) where
   say-rows What.Preferred = preferred-rows
   say-rows What.Accept = answer-rows What.Accept (inl refl)
   say-rows What.Reject = answer-rows What.Reject (inr refl)
-  say-rows What.Required = inl (refl, refl)
+  say-rows What.Required = required-rows
 
 not-an-event-rows : (c : Call) (e : Event) (l : List ℕ) (s : Bool) → soundOf c ≡ s → Denies s (Unsound c) → NotAnEvent e → First (answerRows c e l) (numberOf (notAnEventOf c .answer))
 unfolding notAnEventOf refusedOf
@@ -236,25 +240,25 @@ pub answer-first : (c : Call) (e : Event) (l : List ℕ) → First (answerRows c
 unfolding setupOf proceedsOf alertingOf connectOf informationOf facilityOf passesFacilityOf disconnectOf passedOnOf replyOf releaseCompleteOf endsOf tickOf passesTickOf
 answer-first c (Event.Setup reference rights q) l =
     first-rows c (Event.Setup reference rights q) l _ _ _ refl (denied _ (fresh (c .phase)))
-    (denied _ (both _ _ (reference-range reference) (rights-range rights))) (no-more _ refl)
+    (denied _ (both _ _ (reference-range reference) (rights-range rights))) (no-more refl)
 answer-first c (Event.Alerting answers) l =
     first-rows c (Event.Alerting answers) l _ _ _ refl (denied _ (requested (c .phase))) always
-    (no-more _ (rw (answered-taken c _ _ _ l) refl))
+    (no-more (rw (answered-taken c _ _ _ l) refl))
 answer-first c (Event.Connect answers) l =
     first-rows c (Event.Connect answers) l _ _ _ refl (denied _ (connectable (c .phase))) always
-    (no-more _ (rw (answered-taken c _ _ _ l) refl))
+    (no-more (rw (answered-taken c _ _ _ l) refl))
 answer-first c (Event.Information side more) l =
     first-rows c (Event.Information side more) l _ _ _ refl (denied _ (talking (c .phase))) always
     (later-information c side more l (sight l (c .rights .limit)))
 answer-first c (Event.Facility side what) l =
     first-rows c (Event.Facility side what) l _ _ _ refl (denied _ (active (c .phase))) always
-    (inr ((λ x. x), inr ((λ x. x), inr ((λ x. x), say-rows c side what))))
+    (inr ((λ x. x), inr ((λ x. x), inr ((λ x. x), say-rows c l side what))))
 answer-first c (Event.Disconnect side cause answers) l =
-    first-rows c (Event.Disconnect side cause answers) l _ _ _ refl (denied _ (up (c .phase))) (over cause 127) (no-more _ refl)
+    first-rows c (Event.Disconnect side cause answers) l _ _ _ refl (denied _ (up (c .phase))) (over cause 127) (no-more refl)
 answer-first c (Event.ReleaseComplete side) l =
-    first-rows c (Event.ReleaseComplete side) l _ _ _ refl (denied _ (live (c .phase))) always (no-more _ refl)
+    first-rows c (Event.ReleaseComplete side) l _ _ _ refl (denied _ (live (c .phase))) always (no-more refl)
 answer-first c Event.Tick l =
-    first-rows c Event.Tick l _ _ _ refl (denied _ (live (c .phase))) always (no-more _ refl)
+    first-rows c Event.Tick l _ _ _ refl (denied _ (live (c .phase))) always (no-more refl)
 answer-first c Event.CallProceeding l = not-an-event-rows c _ l _ refl (unsound c) (inl refl)
 answer-first c Event.CongestionControl l = not-an-event-rows c _ l _ refl (unsound c) (inr refl)
 

@@ -40,7 +40,7 @@ use Rattle.call.specs.Tick.{tickedMetersOf, refillsOf, runsOf, passesTickOf, ti
 use Rattle.promises.specs.Numbers.{Live, MeterInRange, RightsInRange, Within, InRangeCall, Unsound, answerRows}
 use Rattle.promises.specs.Sound.{Offered, runOf, Sound, NeverUnsound}
 use Rattle.promises.proofs.Decide.{never, by-cond, both}
-use Rattle.promises.proofs.Numbers.{answers}
+use Rattle.promises.proofs.Numbers.{after, answers}
 use Rattle.promises.proofs.Heard.{Heard, through, barred, heard}
 use Rattle.promises.proofs.Conditions.{requested, connectable, talking, active, up, live, reference-range, rights-range, in-range}
 
@@ -223,10 +223,6 @@ lacks : (rows : Rows) (n : ℕ) → Lacks rows n → First rows n → ⊥
 lacks end n x f = x f
 lacks (row P k rows) n x (inl f) = x .0 (f .1)
 lacks (row P k rows) n x (inr f) = lacks rows n (x .1) (f .1)
-
-abbrev after : Rows → Rows
-after end = end
-after (row P k rows) = rows
 
 twenty-five : (c : Call) (e : Event) (l : List ℕ) → First (answerRows c e l) 25 → Unsound c
 twenty-five c e l (inl f) = f .0

@@ -12,29 +12,9 @@ use lib.Seq.{length-take-le, take-at, drop-append-add, drop-drop, paste-zero, ta
 use Rattle.component.specs.declared.room.Bar.{Bar}
 use Rattle.component.specs.declared.room.Wrote.{Wrote}
 use Rattle.component.specs.Room.{placed, wroteOf, leftOf, Written}
-use Rattle.text.specs.Pieces.{endOf, Piece}
-
-module _ (at : ℕ) (p l : List ℕ) (fits : at + length p ≤ length l) where
-  front : length (take at l ++ p) ≡ at + length p
-  front = simp (length-append, length-take-le at l (omega arith))
-
-  pub length-placed : length (placed at p l) ≡ length l
-  unfolding placed
-  length-placed = simp (length-append, length-take-le at l (omega arith), length-drop) (omega arith)
-
-  pub placed-then : (q : List ℕ) → placed (at + length p) q (placed at p l) ≡ placed at (p ++ q) l
-  unfolding placed
-  placed-then q =
-      rw (
-        take-at (take at l ++ p) (drop (at + length p) l) (at + length p) front,
-        ← front,
-        drop-append-add (take at l ++ p) (drop (length (take at l ++ p)) l) (length q),
-        front,
-        drop-drop,
-        length-append p q,
-        append-assoc (take at l) p q,
-        add-assoc at (length p) (length q),
-      ) refl
+use Rattle.component.specs.Putting.{endOf}
+use Rattle.component.proofs.Pieces.{length-placed, placed-then}
+use Rattle.text.specs.Pieces.{Piece}
 
 -- what was written where there is room for it is a piece
 pub settled : {most at r : ℕ} {p l l' : List ℕ} {w : Wrote} → at + most ≤ length l → length p ≤ most → Written true at p l l' w → r ≡ endOf w → Piece most at p l l' r

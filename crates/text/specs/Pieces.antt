@@ -3,13 +3,7 @@ use Prim.Native.Nat.{ℕ, _+_, _≤_}
 use mathlib.Core.List.{List}
 use mathlib.Core.Path.{_≡_}
 use lib.ListN.{length}
-use Rattle.component.specs.declared.room.Wrote.{Wrote}
 use Rattle.component.specs.Room.{placed}
-
--- where a piece that was written ends
-abbrev pub endOf : Wrote → ℕ
-endOf (Wrote.To n) = n
-endOf (Wrote.Refused b) = 0
 
 -- The buffer l became l' by a piece p at a place; the piece ends at r, and has at most so many octets. Nobody has to believe
 -- this: it is for functions inside a crate that write a line in pieces, and no public contract cites it.

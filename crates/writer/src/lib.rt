@@ -6,7 +6,7 @@ ghost use lib.ListN.{length};
 ghost use Rattle.component.specs.Room.{Written};
 ghost use Rattle.component.specs.Facility.{componentFits, facilityOctets};
 ghost use Rattle.writer.specs.Writing.{topOf, headerOctets, headerSize, singleOctets, causesOctets, facilitiesOctets, frontOctets, messageOctets, referenceFits, plainFits, moreFits, levelFits, singleFits, causesFit, facilitiesFit, userFits, messageFits};
-ghost use Rattle.component.specs.Putting.{endOf, Put};
+ghost use Rattle.component.specs.Putting.{Put};
 use component::cause::Cause;
 use component::cause::write_cause;
 use component::facility::Component;
@@ -14,6 +14,7 @@ use component::facility::component_fits;
 use component::facility::write_facility;
 use component::room::Bar;
 use component::room::Wrote;
+use component::room::end_of;
 use component::room::write_octets;
 use message::fields::Facilities;
 use message::fields::Header;
@@ -207,15 +208,6 @@ fn front_size(w: Message) -> usize
     header_size(width) + single_size(single) + cause_size(cause) + facilities_size(facility)
 }
 
-fn settled(w: Wrote) -> usize
-    ensures { λ r. ⌜ r ≡ endOf w ⌝ }
-{
-    match w {
-        Wrote::To(n) => n,
-        Wrote::Refused(_) => 0,
-    }
-}
-
 fn top(flag: bool, r: u16) -> u8
     ensures { λ x. ⌜ x ≡ topOf flag r ⌝ }
 {
@@ -234,13 +226,13 @@ fn put_header(buf: &mut [u8], h: Header) -> usize
         Width::One => {
             let first = top(h.flag, h.reference);
             let piece = [8, 1, first, octet];
-            settled(write_octets(buf, 0, &piece))
+            end_of(write_octets(buf, 0, &piece))
         }
         Width::Two => {
             let first = top(h.flag, h.reference / 256);
             let second = (h.reference % 256) as u8;
             let piece = [8, 2, first, second, octet];
-            settled(write_octets(buf, 0, &piece))
+            end_of(write_octets(buf, 0, &piece))
         }
     }
 }
@@ -251,9 +243,9 @@ fn put_single(buf: &mut [u8], at: usize, s: Single) -> usize
 {
     match s {
         Single::Absent => at,
-        Single::MoreData => settled(write_octets(buf, at, &[0xA0])),
-        Single::Ready => settled(write_octets(buf, at, &[0xB0])),
-        Single::NotReady => settled(write_octets(buf, at, &[0xBF])),
+        Single::MoreData => end_of(write_octets(buf, at, &[0xA0])),
+        Single::Ready => end_of(write_octets(buf, at, &[0xB0])),
+        Single::NotReady => end_of(write_octets(buf, at, &[0xBF])),
     }
 }
 
@@ -263,7 +255,7 @@ fn put_cause(buf: &mut [u8], at: usize, c: Cause) -> usize
 {
     match c {
         Cause::Absent => at,
-        Cause::Value(v) => settled(write_cause(buf, at, v)),
+        Cause::Value(v) => end_of(write_cause(buf, at, v)),
     }
 }
 
@@ -271,7 +263,7 @@ fn put_component(buf: &mut [u8], at: usize, c: Component) -> usize
     requires { ⌜ (componentFits c ≡ true) × (at + length (facilityOctets c) ≤ length (now buf)) ⌝ }
     ensures { λ r. ⌜ Put at (facilityOctets c) (now (buf .entry)) (now (buf .exit)) r ⌝ }
 {
-    settled(write_facility(buf, at, c))
+    end_of(write_facility(buf, at, c))
 }
 
 fn put_facilities(buf: &mut [u8], at: usize, f: Facilities) -> usize
@@ -306,7 +298,7 @@ fn put_message(buf: &mut [u8], w: Message, user: &[u8]) -> usize
     let b = put_single(buf, a, single);
     let c = put_cause(buf, b, cause);
     let d = put_facilities(buf, c, facility);
-    settled(write_octets(buf, d, user))
+    end_of(write_octets(buf, d, user))
 }
 
 // Writes a message with its user-user element, or no octet at all.

@@ -8,7 +8,7 @@ use Rattle.writer.proofs.put_header.Reads as reads
 use Rattle.writer.proofs.put_header.Lts as lts
 use Rattle.component.proofs.room.write_octets.Reads as write-octets-reads
 use Rattle.message.proofs.kind.kind_octet.Reads as kind-octet-reads
-use Rattle.writer.proofs.settled.Reads as settled-reads
+use Rattle.component.proofs.room.end_of.Reads as end-of-reads
 use Rattle.writer.proofs.top.Reads as top-reads
 
 kind-octet-requires : tie.Need-kind-octet-requires
@@ -26,8 +26,8 @@ slice-aggregate-write-octets c = search needs
 write-octets-requires : tie.Need-write-octets-requires
 write-octets-requires c κs = search needs
 
-settled-requires : tie.Need-settled-requires
-settled-requires c κs = search needs
+end-of-requires : tie.Need-end-of-requires
+end-of-requires c κs = search needs
 
 enum-told-2 : tie.Need-enum-told-2
 enum-told-2 c = search needs
@@ -44,8 +44,8 @@ slice-aggregate-write-octets-2 c = search needs
 write-octets-requires-2 : tie.Need-write-octets-requires-2
 write-octets-requires-2 c κs = search needs
 
-settled-requires-2 : tie.Need-settled-requires-2
-settled-requires-2 c κs = search needs
+end-of-requires-2 : tie.Need-end-of-requires-2
+end-of-requires-2 c κs = search needs
 
 same-length : tie.Need-same-length
 same-length c = search needs
@@ -54,7 +54,7 @@ returns : tie.Need-returns
 returns c =
     let g = c .before .before .before .before .before .before .before .enum-told .given .1 in
     let room = rw g at (c .before .before .before .before .before .before .before .before .before .before .before .pre) in
-    rw (g, ← (c .before .before .before .before .before .before .before .before .before .kind-octet .ensures), ← (c .before .before .before .before .before .before .top .ensures)) (settles refl (omega arith) (c .before .before .before .write-octets .ensures) (c .settled .ensures))
+    rw (g, ← (c .before .before .before .before .before .before .before .before .before .kind-octet .ensures), ← (c .before .before .before .before .before .before .top .ensures)) (settles refl (omega arith) (c .before .before .before .write-octets .ensures) (c .end-of .ensures))
 
 same-length-2 : tie.Need-same-length-2
 same-length-2 c = search needs
@@ -63,7 +63,7 @@ returns-2 : tie.Need-returns-2
 returns-2 c =
     let g = c .before .before .before .before .before .before .before .before .before .enum-told2 .given .1 in
     let room = rw g at (c .before .before .before .before .before .before .before .before .before .before .before .before .before .pre) in
-    rw (g, ← (c .before .before .before .before .before .before .before .before .before .before .before .kind-octet .ensures), ← (c .before .before .before .before .before .before .before .top2 .ensures)) (settles refl (omega arith) (c .before .before .before .write-octets2 .ensures) (c .settled2 .ensures))
+    rw (g, ← (c .before .before .before .before .before .before .before .before .before .before .before .kind-octet .ensures), ← (c .before .before .before .before .before .before .before .top2 .ensures)) (settles refl (omega arith) (c .before .before .before .write-octets2 .ensures) (c .end-of2 .ensures))
 
 pub put-header-spec : {M : Type 1} → statement M
 put-header-spec =
@@ -74,13 +74,13 @@ put-header-spec =
     top-requires
     slice-aggregate-write-octets
     write-octets-requires
-    settled-requires
+    end-of-requires
     enum-told-2
     top-requires-2
     cast-second
     slice-aggregate-write-octets-2
     write-octets-requires-2
-    settled-requires-2
+    end-of-requires-2
     same-length
     returns
     same-length-2

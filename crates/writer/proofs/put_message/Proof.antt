@@ -13,7 +13,7 @@ use Rattle.writer.proofs.put_cause.Reads as put-cause-reads
 use Rattle.writer.proofs.put_facilities.Reads as put-facilities-reads
 use Rattle.writer.proofs.put_header.Reads as put-header-reads
 use Rattle.writer.proofs.put_single.Reads as put-single-reads
-use Rattle.writer.proofs.settled.Reads as settled-reads
+use Rattle.component.proofs.room.end_of.Reads as end-of-reads
 
 put-header-requires : tie.Need-put-header-requires
 put-header-requires c κs =
@@ -44,8 +44,8 @@ put-facilities-requires c κs =
 write-octets-requires : tie.Need-write-octets-requires
 write-octets-requires c κs = search needs
 
-settled-requires : tie.Need-settled-requires
-settled-requires c κs = search needs
+end-of-requires : tie.Need-end-of-requires
+end-of-requires c κs = search needs
 
 same-length : tie.Need-same-length
 same-length c = search needs
@@ -59,7 +59,7 @@ returns c =
     let b = c .before .before .before .before .before .before .before .before .before .before .before .before .before .before .before .put-single .ensures in
     let d = c .before .before .before .before .before .before .before .before .before .before .before .put-cause .ensures in
     let e = c .before .before .before .before .before .before .before .put-facilities .ensures in
-    let last = settles refl (omega arith) (c .before .before .before .write-octets .ensures) (c .settled .ensures) in
+    let last = settles refl (omega arith) (c .before .before .before .write-octets .ensures) (c .end-of .ensures) in
     five-puts (omega arith) a b d e last
 
 pub put-message-spec : {M : Type 1} → statement M
@@ -71,6 +71,6 @@ put-message-spec =
     put-cause-requires
     put-facilities-requires
     write-octets-requires
-    settled-requires
+    end-of-requires
     same-length
     returns)

@@ -7,7 +7,7 @@ use Rattle.writer.proofs.put_single.Tie as tie
 use Rattle.writer.proofs.put_single.Reads as reads
 use Rattle.writer.proofs.put_single.Lts as lts
 use Rattle.component.proofs.room.write_octets.Reads as write-octets-reads
-use Rattle.writer.proofs.settled.Reads as settled-reads
+use Rattle.component.proofs.room.end_of.Reads as end-of-reads
 
 enum-told : tie.Need-enum-told
 enum-told c = search needs
@@ -21,8 +21,8 @@ slice-aggregate-write-octets c = search needs
 write-octets-requires : tie.Need-write-octets-requires
 write-octets-requires c κs = search needs
 
-settled-requires : tie.Need-settled-requires
-settled-requires c κs = search needs
+end-of-requires : tie.Need-end-of-requires
+end-of-requires c κs = search needs
 
 enum-told-3 : tie.Need-enum-told-3
 enum-told-3 c = search needs
@@ -33,8 +33,8 @@ slice-aggregate-write-octets-2 c = search needs
 write-octets-requires-2 : tie.Need-write-octets-requires-2
 write-octets-requires-2 c κs = search needs
 
-settled-requires-2 : tie.Need-settled-requires-2
-settled-requires-2 c κs = search needs
+end-of-requires-2 : tie.Need-end-of-requires-2
+end-of-requires-2 c κs = search needs
 
 enum-told-4 : tie.Need-enum-told-4
 enum-told-4 c = search needs
@@ -45,8 +45,8 @@ slice-aggregate-write-octets-3 c = search needs
 write-octets-requires-3 : tie.Need-write-octets-requires-3
 write-octets-requires-3 c κs = search needs
 
-settled-requires-3 : tie.Need-settled-requires-3
-settled-requires-3 c κs = search needs
+end-of-requires-3 : tie.Need-end-of-requires-3
+end-of-requires-3 c κs = search needs
 
 returns : tie.Need-returns
 returns c = rw (c .enum-told .given .1) no-put
@@ -58,7 +58,7 @@ returns-2 : tie.Need-returns-2
 returns-2 c =
     let g = c .before .before .before .before .before .before .enum-told2 .given .1 in
     let room = rw g at (c .before .before .before .before .before .before .before .before .before .pre) in
-    rw g (settles refl (omega arith) (c .before .before .before .write-octets .ensures) (c .settled .ensures))
+    rw g (settles refl (omega arith) (c .before .before .before .write-octets .ensures) (c .end-of .ensures))
 
 same-length-2 : tie.Need-same-length-2
 same-length-2 c = search needs
@@ -67,7 +67,7 @@ returns-3 : tie.Need-returns-3
 returns-3 c =
     let g = c .before .before .before .before .before .before .enum-told3 .given .1 in
     let room = rw g at (c .before .before .before .before .before .before .before .before .before .pre) in
-    rw g (settles refl (omega arith) (c .before .before .before .write-octets2 .ensures) (c .settled2 .ensures))
+    rw g (settles refl (omega arith) (c .before .before .before .write-octets2 .ensures) (c .end-of2 .ensures))
 
 same-length-3 : tie.Need-same-length-3
 same-length-3 c = search needs
@@ -76,7 +76,7 @@ returns-4 : tie.Need-returns-4
 returns-4 c =
     let g = c .before .before .before .before .before .before .enum-told4 .given .1 in
     let room = rw g at (c .before .before .before .before .before .before .before .before .before .pre) in
-    rw g (settles refl (omega arith) (c .before .before .before .write-octets3 .ensures) (c .settled3 .ensures))
+    rw g (settles refl (omega arith) (c .before .before .before .write-octets3 .ensures) (c .end-of3 .ensures))
 
 pub put-single-spec : {M : Type 1} → statement M
 put-single-spec =
@@ -86,15 +86,15 @@ put-single-spec =
     enum-told-2
     slice-aggregate-write-octets
     write-octets-requires
-    settled-requires
+    end-of-requires
     enum-told-3
     slice-aggregate-write-octets-2
     write-octets-requires-2
-    settled-requires-2
+    end-of-requires-2
     enum-told-4
     slice-aggregate-write-octets-3
     write-octets-requires-3
-    settled-requires-3
+    end-of-requires-3
     returns
     same-length
     returns-2
