@@ -1,0 +1,59 @@
+-- The promises on records, kept.
+use Prim.Native.Nat.{ℕ, _+_, _-_, _*_, _/_, _%_, _<_, _≤_}
+use mathlib.Core.List.{List, [], _∷_, _++_, append-assoc}
+use mathlib.Core.Bool.{Bool, true, false, cond, not, _&&_, true≢false}
+use mathlib.Core.Logic.{_⊎_, inl, inr, ⊎-elim}
+use mathlib.Core.Path.{_≡_, refl, sym, ap, _∙_}
+use native.Mathlib.Omega.{arith}
+use borrow.Author.Tests.{ltb-true, ltb-false, le-ltb, le-leb, eqb-true, eqb-false, ne-eqb, not-true}
+use lib.ListN.{length, getD, take, drop, replicate, length-append, length-replicate, getD-replicate}
+use lib.Seq.{getD-append-add, take-append-seam}
+use lib.Dec.{ltb, leb, eqb}
+use Rattle.order.specs.First.{row, end, First}
+use Rattle.order.proofs.Only.{exactly}
+use Rattle.call.specs.declared.Event.{Event}
+use Rattle.trace.specs.declared.kind.Kind.{Kind}
+use Rattle.trace.specs.declared.kind.Named.{Named}
+use Rattle.trace.specs.declared.reading.Fault.{Fault}
+use Rattle.trace.specs.declared.reading.Record.{Record}
+use Rattle.trace.specs.Kind.{kindOf, sizeOf}
+use Rattle.trace.specs.Reading.{rangedOf, entryOf, namedOf, recordOf}
+use Rattle.trace.specs.Promises.{recordNumber, InRange, Short, OutOfRange, recordRows, Records, RoundTrip}
+use Rattle.trace.proofs.Ranged.{in-range, ranged}
+use Rattle.trace.proofs.Trip.{round-trip-of}
+
+-- RECORDS, by what is known of the trace's front
+module _ (t : List ℕ) where
+  some : (n : Named) (k : Kind) → kindOf (getD t 0 0) ≡ n → n ≡ Named.Known k → (a b : Bool) → ltb (length t) (sizeOf k) ≡ a → rangedOf k t ≡ b → 1 ≤ length t
+      → First (recordRows t) (recordNumber (cond a (Record.Refused Fault.Short) (cond b (Record.Taken (entryOf k t)) (Record.Refused Fault.Range))))
+  some n k e f true b s r l =
+      let known = e ∙ f in
+      inr ((λ u. let z : _≡_ {A = ℕ} 0 1 = cc (known, u .1) in omega arith), inl ((l, rw known (ltb-true _ _ s)), refl))
+  some n k e f false true s r l =
+      let known = e ∙ f in
+      let whole = ltb-false (length t) (sizeOf k) s in
+      inr ((λ u. let z : _≡_ {A = ℕ} 0 1 = cc (known, u .1) in omega arith), inr ((λ u. let v = rw known at (u .1) in omega arith), inr ((λ u. let v = rw known at (u .1) in v (in-range k t whole r)), refl)))
+  some n k e f false false s r l =
+      let known = e ∙ f in
+      let whole = ltb-false (length t) (sizeOf k) s in
+      inr ((λ u. let z : _≡_ {A = ℕ} 0 1 = cc (known, u .1) in omega arith), inr ((λ u. let v = rw known at (u .1) in omega arith), inl ((l, rw known (λ i. true≢false (sym (ranged k t whole i) ∙ r))), refl)))
+
+  by-kind : (n : Named) → kindOf (getD t 0 0) ≡ n → 1 ≤ length t → First (recordRows t) (recordNumber (namedOf n t))
+  by-kind Named.Unknown e l = inl ((l, e), refl)
+  by-kind (Named.Known k) e l = some (Named.Known k) k e refl _ _ refl refl l
+
+  at-the-end : (b : Bool) → eqb (length t) 0 ≡ b → First (recordRows t) (recordNumber (cond b Record.End (namedOf (kindOf (getD t 0 0)) t)))
+  at-the-end true z =
+      let o = eqb-true (length t) 0 z in
+      inr ((λ u. let l = u .0 in omega arith), inr ((λ u. let l = u .0 in omega arith), inr ((λ u. let l = u .0 in omega arith), refl)))
+  at-the-end false z = by-kind (kindOf (getD t 0 0)) refl (let n = eqb-false (length t) 0 z in one-more (length t) n)
+    where
+      one-more : (k : ℕ) → (k ≡ 0 → ⊥) → 1 ≤ k
+      one-more k n = omega arith
+
+pub records : Records
+unfolding recordOf
+records t = exactly (recordRows t) _ (at-the-end t _ refl)
+
+pub round-trip : RoundTrip
+round-trip r e u rest h = round-trip-of r e u rest h

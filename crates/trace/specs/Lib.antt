@@ -1,0 +1,5 @@
+pub mod Kind
+pub mod Field
+pub mod Reading
+pub mod Writing
+pub mod Promises

@@ -1,0 +1,132 @@
+-- A record at the front of a trace.
+use Prim.Native.Nat.{ℕ, _+_, _*_}
+use mathlib.Core.List.{List, [], _∷_}
+use mathlib.Core.Bool.{Bool, true, false, cond, _&&_}
+use lib.ListN.{length, getD, take, drop}
+use lib.Dec.{ltb, leb, eqb}
+use Rattle.call.specs.declared.Event.{Event}
+use Rattle.service.specs.declared.rights.Rights.{Rights}
+use Rattle.service.specs.declared.standing.Answers.{Answers}
+use Rattle.service.specs.declared.standing.Requests.{Requests}
+use Rattle.trace.specs.declared.kind.Kind.{Kind}
+use Rattle.trace.specs.declared.kind.Named.{Named}
+use Rattle.trace.specs.declared.reading.Fault.{Fault}
+use Rattle.trace.specs.declared.reading.Entry.{Entry}
+use Rattle.trace.specs.declared.reading.Record.{Record}
+use Rattle.trace.specs.Kind.{kindOf, sizeOf}
+use Rattle.trace.specs.Field.{flagOf, sideOf, requestOf, givenOf, whatOf, fieldSize, fieldFitsOf}
+
+-- the paper's number for each fault
+abbrev pub faultNumber : Fault → ℕ
+faultNumber Fault.Kind = 31
+faultNumber Fault.Short = 32
+faultNumber Fault.Range = 33
+
+-- "Bodies start with the reference, high octet first." The octet of kind stands before the body.
+unfoldable pub referenceOf : List ℕ → ℕ
+referenceOf t = getD t 1 0 * 256 + getD t 2 0
+
+-- three requests or answers from a place on, each at most 2
+unfoldable pub threeFitOf : ℕ → ℕ → ℕ → Bool
+threeFitOf a b c = (leb a 2 && leb b 2) && leb c 2
+
+-- the element field at a place
+unfoldable pub fieldAtOf : ℕ → List ℕ → Bool
+fieldAtOf p t = fieldFitsOf (take fieldSize (drop p t))
+
+-- where the element field of a kind stands; 0 for a kind that has none
+abbrev pub placeOf : Kind → ℕ
+placeOf Kind.Setup = 12
+placeOf Kind.Alerting = 6
+placeOf Kind.Connect = 6
+placeOf Kind.Information = 4
+placeOf Kind.Facility = 0
+placeOf Kind.Disconnect = 8
+placeOf Kind.ReleaseComplete = 0
+placeOf Kind.Tick = 0
+
+-- "33: late, leave or side over 1, request or answer over 2, what over 3, cause over 127, element field not of that form."
+unfoldable pub setupRangedOf : List ℕ → Bool
+setupRangedOf t =
+    ((leb (getD t 4 0) 1 && leb (getD t 5 0) 1) && threeFitOf (getD t 9 0) (getD t 10 0) (getD t 11 0)) && fieldAtOf 12 t
+
+unfoldable pub answeringRangedOf : List ℕ → Bool
+answeringRangedOf t = threeFitOf (getD t 3 0) (getD t 4 0) (getD t 5 0) && fieldAtOf 6 t
+
+unfoldable pub informationRangedOf : List ℕ → Bool
+informationRangedOf t = leb (getD t 3 0) 1 && fieldAtOf 4 t
+
+unfoldable pub facilityRangedOf : List ℕ → Bool
+facilityRangedOf t = leb (getD t 3 0) 1 && leb (getD t 4 0) 3
+
+unfoldable pub disconnectRangedOf : List ℕ → Bool
+disconnectRangedOf t =
+    ((leb (getD t 3 0) 1 && leb (getD t 4 0) 127) && threeFitOf (getD t 5 0) (getD t 6 0) (getD t 7 0)) && fieldAtOf 8 t
+
+abbrev pub rangedOf : Kind → List ℕ → Bool
+rangedOf Kind.Setup t = setupRangedOf t
+rangedOf Kind.Alerting t = answeringRangedOf t
+rangedOf Kind.Connect t = answeringRangedOf t
+rangedOf Kind.Information t = informationRangedOf t
+rangedOf Kind.Facility t = facilityRangedOf t
+rangedOf Kind.Disconnect t = disconnectRangedOf t
+rangedOf Kind.ReleaseComplete t = leb (getD t 3 0) 1
+rangedOf Kind.Tick t = true
+
+-- "1: services (bit 0 is service 1; over 7 gives 24), late, leave, limit, X, Y, three requests"
+unfoldable pub rightsOf : List ℕ → Rights
+rightsOf t =
+    record {
+      services = getD t 3 0;
+      late = flagOf (getD t 4 0);
+      leave = flagOf (getD t 5 0);
+      limit = getD t 6 0;
+      burst = getD t 7 0;
+      refill = getD t 8 0;
+    }
+
+unfoldable pub requestsOf : ℕ → ℕ → ℕ → Requests
+requestsOf a b c = record { one = requestOf a; two = requestOf b; three = requestOf c }
+
+unfoldable pub answersOf : ℕ → ℕ → ℕ → Answers
+answersOf a b c = record { one = givenOf a; two = givenOf b; three = givenOf c }
+
+-- "2 and 3: three answers. 4: side. 5: side, what. 6: side, cause, answers. 7: side." More data is in no trace.
+abbrev pub eventOf : Kind → List ℕ → Event
+eventOf Kind.Setup t = Event.Setup (referenceOf t) (rightsOf t) (requestsOf (getD t 9 0) (getD t 10 0) (getD t 11 0))
+eventOf Kind.Alerting t = Event.Alerting (answersOf (getD t 3 0) (getD t 4 0) (getD t 5 0))
+eventOf Kind.Connect t = Event.Connect (answersOf (getD t 3 0) (getD t 4 0) (getD t 5 0))
+eventOf Kind.Information t = Event.Information (sideOf (getD t 3 0)) false
+eventOf Kind.Facility t = Event.Facility (sideOf (getD t 3 0)) (whatOf (getD t 4 0))
+eventOf Kind.Disconnect t =
+    Event.Disconnect (sideOf (getD t 3 0)) (getD t 4 0) (answersOf (getD t 5 0) (getD t 6 0) (getD t 7 0))
+eventOf Kind.ReleaseComplete t = Event.ReleaseComplete (sideOf (getD t 3 0))
+eventOf Kind.Tick t = Event.Tick
+
+-- the element's octets follow their number; a kind without an element has none
+unfoldable pub countOf : ℕ → List ℕ → ℕ
+countOf place t = cond (eqb place 0) 0 (getD t place 0)
+
+unfoldable pub entryOf : Kind → List ℕ → Entry
+entryOf k t =
+    record {
+      kind = k;
+      reference = referenceOf t;
+      event = eventOf k t;
+      at = placeOf k + 1;
+      count = countOf (placeOf k) t;
+    }
+
+abbrev pub namedOf : Named → List ℕ → Record
+namedOf Named.Unknown t = Record.Refused Fault.Kind
+namedOf (Named.Known k) t =
+    cond (ltb (length t) (sizeOf k)) (Record.Refused Fault.Short)
+    (cond (rangedOf k t) (Record.Taken (entryOf k t)) (Record.Refused Fault.Range))
+
+-- "31, 32, 33: trace: unknown kind; record cut short; field out of range; in this order". A trace may end between records.
+unfoldable pub recordOf : List ℕ → Record
+recordOf t = cond (eqb (length t) 0) Record.End (namedOf (kindOf (getD t 0 0)) t)
+
+-- the element's octets, as the part of the trace that they are
+unfoldable pub elementOf : Entry → List ℕ → List ℕ
+elementOf e t = cond (leb (e .at + e .count) (length t)) (take (e .count) (drop (e .at) t)) []
