@@ -1,0 +1,11 @@
+pub mod Plainly
+pub mod Rows
+pub mod Arms
+pub mod Lends
+pub mod Again
+pub mod Looks
+pub mod Along
+pub mod Searched
+pub mod Within
+pub mod Counted
+pub mod Promises

@@ -1,0 +1,6 @@
+pub mod Bridge
+pub mod Choice
+pub mod Settle
+pub mod Step
+pub mod Table
+pub mod Promises
