@@ -1,4 +1,3 @@
-pub mod Plainly
 pub mod Rows
 pub mod Arms
 pub mod Lends

@@ -52,7 +52,7 @@ use Rattle.exchange.specs.Step.{stepOutcome, stepTable}
 use Rattle.exchange.specs.Bridge.{turnedOf}
 use Rattle.exchange.specs.declared.bridge.Turned.{Turned}
 use Rattle.exchange.specs.declared.settle.Outcome.{Outcome}
-use Rattle.exchange.proofs.Plainly.{calls-lasts, leaves}
+use Rattle.meter.proofs.Plainly.{calls-lasts, leaves}
 use Rattle.exchange.proofs.Lends.{Cell, lends-array, array-back, as-field, field-val}
 use Rattle.exchange.proofs.settle.Outcome as O
 use Rattle.exchange.proofs.settle.Outcome.Laws as O′

@@ -44,7 +44,7 @@ use Rattle.exchange.specs.Table.{tableSound, findFrom, placeFrom}
 use Rattle.exchange.specs.Choice.{referenceOf, chooseOf, chosenOf}
 use Rattle.exchange.specs.declared.table.Found.{Found}
 use Rattle.exchange.specs.declared.choice.Choice.{Choice}
-use Rattle.exchange.proofs.Plainly.{pre-plain, calls-told, calls-plain, leaves}
+use Rattle.meter.proofs.Plainly.{pre-plain, calls-told, calls-plain, leaves}
 use Rattle.exchange.proofs.table.Found as U
 use Rattle.exchange.proofs.table.Found.Laws as U′
 use Rattle.exchange.proofs.choice.Choice as R

@@ -59,7 +59,7 @@ use Rattle.exchange.specs.declared.settle.Outcome.{Outcome}
 use Rattle.exchange.proofs.Again.{LentAgain, lends-again, comes-back}
 use Rattle.exchange.proofs.Looks.{LentShared, shares-again, comes-back as looked-back}
 use Rattle.exchange.proofs.Arms.{assigns-on}
-use Rattle.exchange.proofs.Plainly.{pre-plain, calls-lasts, calls-told, calls-plain, leaves}
+use Rattle.meter.proofs.Plainly.{pre-plain, calls-lasts, calls-told, calls-plain, leaves}
 use Rattle.exchange.proofs.Within.{chosen-within}
 use Rattle.exchange.proofs.settle.Outcome as U
 use Rattle.exchange.proofs.settle.Outcome.Laws as U′

@@ -49,7 +49,7 @@ use Rattle.call.proofs.Event.Laws as E′
 use Rattle.exchange.specs.Settle.{settledOf}
 use Rattle.exchange.specs.declared.settle.Outcome.{Outcome}
 use Rattle.exchange.specs.declared.settle.Settled.{Settled}
-use Rattle.exchange.proofs.Plainly.{pre-plain, calls-told, calls-plain, leaves}
+use Rattle.meter.proofs.Plainly.{pre-plain, calls-told, calls-plain, leaves}
 use Rattle.exchange.proofs.Rows.{byte-fits, own-slice}
 use Rattle.exchange.proofs.settle.Outcome as U
 use Rattle.exchange.proofs.settle.Outcome.Laws as U′

@@ -54,7 +54,7 @@ use Rattle.call.proofs.Call.Laws as T′
 use Rattle.exchange.specs.Table.{findFrom, heldIn, laterOf, faultOf, callsSound}
 use Rattle.exchange.specs.declared.table.Found.{Found}
 use Rattle.exchange.proofs.Arms.{skips-to}
-use Rattle.exchange.proofs.Plainly.{pre-plain, calls-told, calls-plain, leaves}
+use Rattle.meter.proofs.Plainly.{pre-plain, calls-told, calls-plain, leaves}
 use Rattle.exchange.proofs.Searched.{alone-at, sounds, fault-says, stops, goes-on}
 use Rattle.exchange.proofs.table.Found as U
 use Rattle.exchange.proofs.table.Found.Laws as U′

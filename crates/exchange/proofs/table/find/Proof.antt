@@ -39,7 +39,7 @@ use Rattle.call.specs.declared.Call.{Call}
 use Rattle.call.proofs.Call as T
 use Rattle.exchange.specs.Table.{findFrom}
 use Rattle.exchange.specs.declared.table.Found.{Found}
-use Rattle.exchange.proofs.Plainly.{calls-told, leaves}
+use Rattle.meter.proofs.Plainly.{calls-told, leaves}
 use Rattle.exchange.proofs.table.Found as U
 use Rattle.exchange.proofs.table.Found.Laws as U′
 use Rattle.exchange.proofs.table.find_from as g

@@ -54,7 +54,7 @@ use Rattle.exchange.specs.Table.{liveAs, findFrom}
 use Rattle.exchange.specs.declared.table.Found.{Found}
 use Rattle.exchange.specs.declared.table.Found.the-variants.{At, Nothing}
 use Rattle.exchange.proofs.Arms.{skips-to}
-use Rattle.exchange.proofs.Plainly.{pre-plain, calls-told, calls-plain, leaves}
+use Rattle.meter.proofs.Plainly.{pre-plain, calls-told, calls-plain, leaves}
 use Rattle.exchange.proofs.Along.{one-more, dropped}
 use Rattle.exchange.proofs.table.Found as U
 use Rattle.exchange.proofs.table.Found.Laws as U′

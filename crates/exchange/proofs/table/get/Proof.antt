@@ -37,7 +37,7 @@ use denote.Triple.Walked.{needs, Stays, stay-dropped, walkOf, goes-dropped, walk
 use denote.Exit.{yes}
 use Rattle.call.specs.Sound.{freshCall}
 use Rattle.call.specs.declared.Call.{Call}
-use Rattle.exchange.proofs.Plainly.{leaves}
+use Rattle.meter.proofs.Plainly.{leaves}
 use Rattle.exchange.proofs.Rows.{byte-fits}
 use Rattle.call.proofs.Call as T
 use Rattle.call.proofs.Call.Laws as T′

@@ -38,7 +38,7 @@ use Rattle.call.specs.declared.Call.{Call}
 use Rattle.call.proofs.Call as T
 use Rattle.exchange.specs.Table.{greatestTable, callsSound, tableSound}
 use Rattle.exchange.proofs.Arms.{assigns-on}
-use Rattle.exchange.proofs.Plainly.{calls-told, leaves}
+use Rattle.meter.proofs.Plainly.{calls-told, leaves}
 use Rattle.exchange.proofs.table.calls_sound as g
 use Rattle.exchange.proofs.table.calls_sound.Symbol as g-def
 use Rattle.exchange.proofs.table.calls_sound.Symbol.{name as #g}
