@@ -7,3 +7,6 @@ pub mod Numbers
 pub mod Refusals
 pub mod Seen
 pub mod Sound
+pub mod Beside
+pub mod MoreRights
+pub mod MoreInstances

@@ -4,3 +4,5 @@ pub mod Notes
 pub mod Numbers
 pub mod Refusals
 pub mod Sound
+pub mod MoreRights
+pub mod MoreInstances

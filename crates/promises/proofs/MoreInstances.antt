@@ -1,0 +1,97 @@
+-- The instances of demand 3 and the runs without a premise, computed.
+use Prim.Native.Nat.{ℕ}
+use mathlib.Core.Bool.{Bool, true, false}
+use mathlib.Core.Path.{_≡_, refl}
+use native.Mathlib.Omega.{arith}
+use Rattle.service.specs.declared.rights.Rights.{Rights}
+use Rattle.service.specs.declared.rights.Service.{Service}
+use Rattle.meter.specs.Meter.{emptyOf, meterFitsOf, grantedOf, countedOf, spentOf, markedOf, refilledOf, tickedOf, underThreeOf, passageOf}
+use Rattle.service.specs.Element.{wellFormedOf, seenOf, goesOutOf}
+use Rattle.service.specs.Rights.{rightsFitOf, referenceFitsOf}
+use Rattle.service.specs.Standing.{remainsOf, firstStandingOf, standingsOf, lacksOf, passedRequestsOf, networkRefusalsOf, failedOf, settlesOf, tellsOf, declinesOf, silence, silentAnswers}
+use Rattle.rules.specs.Asking.{nobodyAsks, toRequestOf, toAnswerOf}
+use Rattle.rules.specs.Message.{sayingOf, bareOf, congestionOf, informsOf, onlyIfOf}
+use Rattle.call.specs.Sound.{noRights, noServices, emptyMeters, freshCall, fieldsFitOf, soundOf, inPhaseOf}
+use Rattle.call.specs.Reply.{barOf, refusedOf, heardOf, replyOf}
+use Rattle.call.specs.Setup.{setupPhaseOf, filledOf, toCallerOf, toCalledOf, setupCarriesOf, proceedsOf, setupOf}
+use Rattle.call.specs.Answering.{grantsOf, answeredCallOf, goesOnOf, clearsOf, alertingFatesOf, connectFatesOf, answeredOf, alertingOf, connectOf}
+use Rattle.call.specs.Information.{metersOf, informationPassageOf, carriedOf, withElementOf, informationOf}
+use Rattle.call.specs.Disconnect.{closingFacilitiesOf, closedCallOf, passedOnOf, disconnectOf}
+use Rattle.call.specs.Facility.{facilityVerdictOf, facilityCallOf, aboutThreeOf, passesFacilityOf, facilityOf}
+use Rattle.call.specs.Tick.{tickedMetersOf, refillsOf, readyOf, runsOf, passesTickOf, tickOf}
+use Rattle.call.specs.Step.{notAnEventOf}
+use Rattle.promises.specs.Numbers.{RightsInRange, Has}
+use Rattle.promises.specs.MoreRights.{NoLess, nothing, octets}
+use Rattle.promises.specs.MoreInstances.{rightsOf, MoreInstances, mended, Without, lastIn, GoesWrong, NoneLeftOut}
+use Rattle.promises.proofs.Conditions.{rights-range}
+
+-- rights that differ in no premise
+itself : (r : Rights) → RightsInRange r → NoLess r r
+itself r i =
+    record {
+      first = i;
+      second = i;
+      services = λ k h. h;
+      late = λ h. h;
+      burst = omega arith;
+      refill = omega arith;
+      limit = refl;
+      leave = refl;
+    }
+
+ranged : (r : Rights) → rightsFitOf r ≡ true → RightsInRange r
+ranged r h = rights-range r .so h
+
+wrong : (w : Without) → rightsFitOf (w .first) ≡ true → rightsFitOf (w .second) ≡ true → mended (w .premise) (w .first) (w .second) ≡ w .first → lastIn (w .first) (w .events) ≡ octets (w .lost) → lastIn (w .second) (w .events) ≡ nothing → GoesWrong w
+wrong w a b e f g =
+    record { range = ranged (w .second) b; others = rw e (itself (w .first) (ranged (w .first) a)); first = f; second = g }
+
+every : (late leave : Bool) (limit burst refill : ℕ) (k : Service) → Has (rightsOf 7 late leave limit burst refill) k
+every late leave limit burst refill Service.One = refl
+every late leave limit burst refill Service.Two = refl
+every late leave limit burst refill Service.Three = refl
+
+-- all under one line that opens the definitions
+computed : MoreInstances × NoneLeftOut
+unfolding emptyOf meterFitsOf grantedOf countedOf spentOf markedOf underThreeOf passageOf wellFormedOf seenOf goesOutOf rightsFitOf referenceFitsOf remainsOf firstStandingOf standingsOf lacksOf passedRequestsOf networkRefusalsOf failedOf settlesOf tellsOf declinesOf silence nobodyAsks sayingOf bareOf congestionOf informsOf onlyIfOf noRights noServices emptyMeters freshCall fieldsFitOf soundOf inPhaseOf barOf refusedOf heardOf replyOf setupPhaseOf filledOf toCallerOf toCalledOf setupCarriesOf proceedsOf setupOf grantsOf answeredCallOf goesOnOf clearsOf alertingFatesOf connectFatesOf answeredOf alertingOf connectOf metersOf informationPassageOf carriedOf withElementOf informationOf refilledOf tickedOf toRequestOf toAnswerOf silentAnswers closingFacilitiesOf closedCallOf passedOnOf disconnectOf facilityVerdictOf facilityCallOf aboutThreeOf passesFacilityOf facilityOf tickedMetersOf refillsOf readyOf runsOf passesTickOf tickOf notAnEventOf
+computed = (
+  (
+    record {
+      premises =
+          record {
+            first = ranged _ refl;
+            second = ranged _ refl;
+            services = λ k _. every true false 20 2 1 k;
+            late = λ h. h;
+            burst = omega arith;
+            refill = omega arith;
+            limit = refl;
+            leave = refl;
+          };
+      first = refl;
+      second = refl;
+    },
+    record {
+      premises =
+          record {
+            first = ranged _ refl;
+            second = ranged _ refl;
+            services = λ k _. every true false 20 3 1 k;
+            late = λ _. refl;
+            burst = omega arith;
+            refill = omega arith;
+            limit = refl;
+            leave = refl;
+          };
+      first = refl;
+      second = refl;
+    },
+  ),
+  (wrong _ refl refl refl refl refl, (wrong _ refl refl refl refl refl, (wrong _ refl refl refl refl refl, (wrong _ refl refl refl refl refl, (wrong _ refl refl refl refl refl, (wrong _ refl refl refl refl refl, (wrong _ refl refl refl refl refl, (wrong _ refl refl refl refl refl, (wrong _ refl refl refl refl refl, (wrong _ refl refl refl refl refl, tt)))))))))),
+)
+
+pub more-instances : MoreInstances
+more-instances = computed .0
+
+pub none-left-out : NoneLeftOut
+none-left-out = computed .1
