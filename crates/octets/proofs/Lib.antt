@@ -4,3 +4,4 @@ pub mod Whole
 pub mod Range
 pub mod Trip
 pub mod Promises
+pub mod OneReply
