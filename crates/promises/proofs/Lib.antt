@@ -10,3 +10,7 @@ pub mod Sound
 pub mod Beside
 pub mod MoreRights
 pub mod MoreInstances
+pub mod Handling
+pub mod Required
+pub mod Granted
+pub mod ShutOut

@@ -6,3 +6,7 @@ pub mod Refusals
 pub mod Sound
 pub mod MoreRights
 pub mod MoreInstances
+pub mod Handling
+pub mod Services
+pub mod ShutOut
+pub mod Handed

@@ -1,0 +1,245 @@
+-- What goes out is whole and under a service.
+use Prim.Native.Nat.{ℕ, _≤_}
+use mathlib.Core.List.{List, []}
+use mathlib.Core.Bool.{Bool, true, false, cond, _&&_, not}
+use mathlib.Core.Logic.{_⊎_, inl, inr}
+use mathlib.Core.Path.{_≡_, refl, ap}
+use borrow.Author.Tests.{ltb-true}
+use lib.ListN.{length}
+use lib.Dec.{ltb}
+use Rattle.service.specs.declared.cause.Cause.{Cause}
+use Rattle.service.specs.declared.element.Note.{Note}
+use Rattle.service.specs.declared.element.Seen.{Seen}
+use Rattle.service.specs.declared.rights.Rights.{Rights}
+use Rattle.service.specs.declared.rights.Service.{Service}
+use Rattle.service.specs.declared.standing.Facilities.{Facilities}
+use Rattle.service.specs.declared.standing.Fates.{Fates}
+use Rattle.service.specs.declared.standing.Request.{Request}
+use Rattle.service.specs.declared.standing.Requests.{Requests}
+use Rattle.rules.specs.declared.answer.Answer.{Answer}
+use Rattle.rules.specs.declared.message.Kind.{Kind}
+use Rattle.rules.specs.declared.message.Message.{Message}
+use Rattle.rules.specs.declared.message.Sent.{Sent}
+use Rattle.rules.specs.declared.phase.Phase.{Phase}
+use Rattle.rules.specs.declared.side.Side.{Side}
+use Rattle.call.specs.declared.Call.{Call}
+use Rattle.call.specs.declared.Event.{Event}
+use Rattle.call.specs.declared.reply.Reply.{Reply}
+use Rattle.meter.specs.Meter.{underThreeOf, passageOf}
+use Rattle.service.specs.Element.{seenOf, goesOutOf}
+use Rattle.service.specs.Standing.{remainsOf, firstStandingOf, standingsOf, lacksOf, failedOf}
+use Rattle.rules.specs.Message.{sayingOf, bareOf, congestionOf, informsOf, onlyIfOf}
+use Rattle.rules.specs.Serving.{passesOf, marksOf}
+use Rattle.call.specs.Answering.{goesOnOf, clearsOf, answeredCallOf, outcomeOf, answeredOf, alertingOf, connectOf}
+use Rattle.call.specs.Disconnect.{closedCallOf, passedOnOf, disconnectOf, endsOf, releaseCompleteOf}
+use Rattle.call.specs.Facility.{aboutThreeOf, passesFacilityOf, facilityOf}
+use Rattle.call.specs.Information.{meterOf, informationPassageOf, carriedOf, withElementOf, informationOf}
+use Rattle.call.specs.Reply.{refusedOf, replyOf}
+use Rattle.call.specs.Setup.{toCallerOf, toCalledOf, setupPhaseOf, filledOf, setupCarriesOf, proceedsOf, setupOf}
+use Rattle.call.specs.Step.{notAnEventOf, stepOf}
+use Rattle.call.specs.Tick.{readyOf, passesTickOf, tickOf}
+use Rattle.promises.specs.Numbers.{WellFormed, InForce, Has, ServesTwo, ServesThree, meterFrom, other}
+use Rattle.promises.specs.Notes.{limitFor}
+use Rattle.promises.specs.Refusals.{sentTo}
+use Rattle.promises.specs.Handling.{handedIn, Goes, setup, alerting, connect, information, disconnect, Whole, Unaltered, Explicit, Implied, Under, UnderAService}
+use Rattle.promises.proofs.Decide.{never, by-cond, Decides, both, as-is, lt}
+use Rattle.promises.proofs.Heard.{Heard, through, barred, heard}
+use Rattle.promises.proofs.Conditions.{in-force, has, serves-two, serves-three}
+use Rattle.promises.proofs.Seen.{Sight, absent, malformed, too-long, whole, sight}
+
+-- no element goes out in the message
+abbrev Plain : Sent → Type 0
+Plain Sent.Absent = Unit {0}
+Plain (Sent.Present m) = m .element ≡ false
+
+plain-empty : (s : Sent) (l : List ℕ) → Plain s → handedIn s l ≡ []
+plain-empty Sent.Absent l p = refl
+plain-empty (Sent.Present m) l p = ap (λ (b : Bool). cond b l []) p
+
+only-plain : (b : Bool) (s : Sent) → Plain s → Plain (onlyIfOf b s)
+unfolding onlyIfOf
+only-plain b s p = by-cond Plain b (λ _. p) (λ _. tt)
+
+-- a message to one side either has no element, or has one that may go out in it
+data Way (e : Event) (to : Side) (l : List ℕ) (limit : ℕ) (P : Type 0) : Sent → Type 0 where
+  plain : {s : Sent} → Plain s → Way e to l limit P s
+  goes : {m : Message} → m .element ≡ true → Goes e to (m .kind) (m .more) → WellFormed l → length l ≤ limit → P → Way e to l limit P (Sent.Present m)
+
+record Passes (c : Call) (e : Event) (l : List ℕ) (r : Reply) : Type 0 where
+  to : Side
+  on : Way e to l (limitFor c e) (Under c e l (r .call)) (sentTo r to)
+  back : Plain (sentTo r (other to))
+
+refused-passes : (c : Call) (e : Event) (l : List ℕ) (x : Answer) (note : Note) → Passes c e l (refusedOf c x note)
+unfolding refusedOf
+refused-passes c e l x note = record { to = Side.Calling; on = plain tt; back = tt }
+
+heard-passes : (c : Call) (e : Event) (l : List ℕ) (a g : Bool) (r : Reply) {s : Reply} → Heard c a g r s → Passes c e l r → Passes c e l s
+heard-passes c e l a g r (through _ _ _) p = p
+heard-passes c e l a g r (barred x) p = refused-passes c e l _ _
+
+-- an element goes out only if it is whole
+whole-so : (l : List ℕ) (limit : ℕ) {s : Seen} (carried : Bool) → Sight l limit s → goesOutOf s carried ≡ true → (s ≡ Seen.Whole) × WellFormed l × (length l ≤ limit) × (carried ≡ true)
+unfolding goesOutOf
+whole-so l limit carried (absent z) h = never h refl
+whole-so l limit carried (malformed z w) h = never h refl
+whole-so l limit carried (too-long z w k) h = never h refl
+whole-so l limit carried (whole z w k) h = (refl, w, k, h)
+
+saying-way : (e : Event) (to : Side) (l : List ℕ) (limit : ℕ) {P : Type 0} (kind : Kind) (cause : Cause) (said : Facilities) (carried : Bool) → Goes e to kind false → (seenOf l limit ≡ Seen.Whole → WellFormed l → length l ≤ limit → carried ≡ true → P) → Way e to l limit P (sayingOf kind cause said (goesOutOf (seenOf l limit) carried))
+unfolding sayingOf
+saying-way e to l limit {P} kind cause said carried g f = go _ refl
+  where
+    go : (b : Bool) → goesOutOf (seenOf l limit) carried ≡ b → Way e to l limit P (sayingOf kind cause said (goesOutOf (seenOf l limit) carried))
+    go true h = let t = whole-so l limit carried (sight l limit) h in goes h g (t .1) (t .2) (f (t .0) (t .1) (t .2) (t .3))
+    go false h = plain h
+
+-- SETUP
+remains-so : (q : Request) (had : Bool) → remainsOf (firstStandingOf q Seen.Whole had) ≡ true → had ≡ true
+unfolding remainsOf firstStandingOf
+remains-so Request.Unasked true h = refl
+remains-so Request.Unasked false h = h
+remains-so Request.Preferred true h = refl
+remains-so Request.Preferred false h = h
+remains-so Request.Required true h = refl
+remains-so Request.Required false h = h
+
+asked : (rights : Rights) (q : Requests) (l : List ℕ) (x : Request) → q .one ≡ x → WellFormed l → length l ≤ rights .limit → Explicit (q .one) ⊎ Implied rights q l
+asked rights q l Request.Unasked e w k = inr (record { unasked = e; formed = w; limit = k })
+asked rights q l Request.Preferred e w k = inl (inl e)
+asked rights q l Request.Required e w k = inl (inr e)
+
+setup-under : (rights : Rights) (q : Requests) (l : List ℕ) (s : Seen) → s ≡ Seen.Whole → WellFormed l → length l ≤ rights .limit → setupCarriesOf rights q s ≡ true → Has rights Service.One × (Explicit (q .one) ⊎ Implied rights q l)
+unfolding setupCarriesOf standingsOf
+setup-under rights q l s e w k h =
+    let t = both _ _ (as-is (not (lacksOf rights q))) (as-is (remainsOf (standingsOf rights q Seen.Whole .one))) .so (rw e at h) in
+    (has rights Service.One .so (remains-so (q .one) _ (t .1)), asked rights q l _ refl w k)
+
+setup-passes : (c : Call) (reference : ℕ) (rights : Rights) (q : Requests) (l : List ℕ) → Passes c (Event.Setup reference rights q) l (proceedsOf reference rights q (seenOf l (rights .limit)))
+unfolding proceedsOf filledOf setupPhaseOf toCallerOf toCalledOf sayingOf
+setup-passes c reference rights q l =
+    record {
+      to = Side.Called;
+      on =
+          by-cond (Way (Event.Setup reference rights q) Side.Called l (rights .limit) _) (lacksOf rights q) (λ _. plain tt)
+          (λ n.
+          saying-way _ _ l (rights .limit) _ _ _ _ setup
+          (λ e w k h. let t = setup-under rights q l (seenOf l (rights .limit)) e w k h in (rw n refl, t .0, t .1)));
+      back = by-cond Plain (lacksOf rights q) (λ _. refl) (λ _. refl);
+    }
+
+-- ALERTING and CONNECT
+module _ (c : Call) (e : Event) (l : List ℕ) (kind : Kind) (next : Phase) (f : Fates) where
+  outcome-passes : (x : Cause) → limitFor c e ≡ c .rights .limit → Goes e Side.Calling kind false → ((d : Call) → d .phase ≡ next → InForce (d .standings .one) → Under c e l d) → Passes c e l (outcomeOf c kind next f (seenOf l (c .rights .limit)) x)
+  unfolding goesOnOf clearsOf answeredCallOf bareOf sayingOf
+  outcome-passes Cause.Absent k g u =
+      record {
+        to = Side.Calling;
+        on = rw k (saying-way e _ l (c .rights .limit) kind _ _ _ g (λ _ _ _ h. u _ refl (in-force _ .so h)));
+        back = tt;
+      }
+  outcome-passes (Cause.Value n) k g u = record { to = Side.Calling; on = plain refl; back = refl }
+
+  answered-passes : limitFor c e ≡ c .rights .limit → Goes e Side.Calling kind false → ((d : Call) → d .phase ≡ next → InForce (d .standings .one) → Under c e l d) → Passes c e l (answeredOf c kind next f l)
+  unfolding answeredOf
+  answered-passes = outcome-passes (failedOf f)
+
+-- a reply to one side's event, whose message to that side has no element
+side-passes : (c : Call) (e : Event) (l : List ℕ) (side : Side) (d : Call) (a : Answer) (note : Note) (back on : Sent) → Plain back → Way e (other side) l (limitFor c e) (Under c e l d) on → Passes c e l (replyOf side d a note back on)
+unfolding replyOf
+side-passes c e l Side.Calling d a note back on p w = record { to = Side.Called; on = w; back = p }
+side-passes c e l Side.Called d a note back on p w = record { to = Side.Calling; on = w; back = p }
+
+-- USER INFORMATION
+module _ (c : Call) (side : Side) where
+  abbrev Served : Type 0
+  Served = Under c (Event.Information side false) [] c
+
+  meter-from : meterOf (c .meters) side ≡ meterFrom c side
+  meter-from = elim side [ Side.Calling ↦ refl | Side.Called ↦ refl ]
+
+  passage-by : (two three : Bool) → Decides two (ServesTwo c side) → Decides three (ServesThree c) → passesOf (passageOf (meterFrom c side) two three) ≡ true → Served
+  unfolding passageOf underThreeOf
+  passage-by two three d g =
+      by-cond (λ p. passesOf p ≡ true → Served) (two && ltb (meterFrom c side .count) 2)
+      (λ t _. inl (both _ _ d (lt _ 2) .so t))
+      (λ _.
+      by-cond (λ p. passesOf p ≡ true → Served) three
+      (λ t.
+      by-cond (λ p. passesOf p ≡ true → Served) (ltb 0 (meterFrom c side .credit)) (λ k _. inr (g .so t, ltb-true _ _ k))
+      (λ _. by-cond (λ p. passesOf p ≡ true → Served) (meterFrom c side .mark) (λ _ h. never h refl) (λ _ h. never h refl)))
+      (λ _. by-cond (λ p. passesOf p ≡ true → Served) two (λ _ h. never h refl) (λ _ h. never h refl)))
+
+  passage-served : passesOf (informationPassageOf c side) ≡ true → Served
+  unfolding informationPassageOf
+  passage-served h = passage-by _ _ (serves-two c side) (serves-three c) (rw meter-from at h)
+
+  module _ (more : Bool) (l : List ℕ) where
+    carried-passes : Sight l (c .rights .limit) Seen.Whole → Passes c (Event.Information side more) l (carriedOf c side more (informationPassageOf c side))
+    unfolding carriedOf onlyIfOf informsOf congestionOf
+    carried-passes (whole z w k) =
+        side-passes c _ l side _ _ _ _ _ (by-cond Plain (marksOf (informationPassageOf c side)) (λ _. refl) (λ _. tt))
+        (by-cond (Way _ _ l _ _) (passesOf (informationPassageOf c side)) (λ h. goes refl information w k (passage-served h)) (λ _. plain tt))
+
+    information-passes : {s : Seen} → Sight l (c .rights .limit) s → Passes c (Event.Information side more) l (withElementOf c s (carriedOf c side more (informationPassageOf c side)))
+    unfolding withElementOf
+    information-passes (absent z) = refused-passes c _ l _ _
+    information-passes (malformed z w) = refused-passes c _ l _ _
+    information-passes (too-long z w k) = refused-passes c _ l _ _
+    information-passes (whole z w k) = carried-passes (whole z w k)
+
+-- any event
+passes : (c : Call) (e : Event) (l : List ℕ) → Passes c e l (stepOf c e l)
+unfolding setupOf alertingOf connectOf informationOf facilityOf passesFacilityOf aboutThreeOf disconnectOf passedOnOf closedCallOf releaseCompleteOf endsOf bareOf tickOf passesTickOf readyOf congestionOf notAnEventOf sayingOf
+passes c (Event.Setup reference rights q) l = heard-passes c _ l _ _ _ (heard c _ _ _) (setup-passes c reference rights q l)
+passes c (Event.Alerting answers) l =
+    heard-passes c _ l _ _ _ (heard c _ _ _) (answered-passes c _ l _ _ _ refl alerting (λ d p i. (p, i)))
+passes c (Event.Connect answers) l =
+    heard-passes c _ l _ _ _ (heard c _ _ _) (answered-passes c _ l _ _ _ refl connect (λ d p i. (p, i)))
+passes c (Event.Information side more) l =
+    heard-passes c _ l _ _ _ (heard c _ _ _) (information-passes c side more l (sight l (c .rights .limit)))
+passes c (Event.Facility side what) l =
+    heard-passes c _ l _ _ _ (heard c _ _ _)
+    (side-passes c _ l side _ _ _ _ _ (only-plain _ _ refl) (plain (only-plain _ _ refl)))
+passes c (Event.Disconnect side cause answers) l =
+    heard-passes c _ l _ _ _ (heard c _ _ _)
+    (side-passes c _ l side _ _ _ _ _ tt (saying-way _ _ l (c .rights .limit) _ _ _ _ disconnect (λ _ _ _ h. (refl, in-force _ .so h))))
+passes c (Event.ReleaseComplete side) l =
+    heard-passes c _ l _ _ _ (heard c _ _ _) (side-passes c _ l side _ _ _ _ _ tt (plain refl))
+passes c Event.Tick l =
+    heard-passes c _ l _ _ _ (heard c _ _ _)
+    (record { to = Side.Called; on = plain (only-plain _ _ refl); back = only-plain _ _ refl })
+passes c Event.CallProceeding l = refused-passes c _ l _ _
+passes c Event.CongestionControl l = refused-passes c _ l _ _
+
+-- what a user is handed is what goes out to that user
+module _ (c : Call) (e : Event) (l : List ℕ) where
+  way-whole : (side : Side) {s : Sent} → sentTo (stepOf c e l) side ≡ s → Way e side l (limitFor c e) (Under c e l (stepOf c e l .call)) s → Plain (sentTo (stepOf c e l) (other side)) → (handedIn s l ≡ [] → ⊥) → Whole c e l side × Under c e l (stepOf c e l .call)
+  way-whole side {s} h (plain p) b n = absurd (n (plain-empty s l p))
+  way-whole side h (goes {m} t g w k u) b n = (
+    record {
+      own = rw (h, t) refl;
+      formed = w;
+      limit = k;
+      message = m;
+      sent = h;
+      goes = g;
+      alone = plain-empty (sentTo (stepOf c e l) (other side)) l b;
+    },
+    u,
+  )
+
+  reaches : (side to : Side) → Way e to l (limitFor c e) (Under c e l (stepOf c e l .call)) (sentTo (stepOf c e l) to) → Plain (sentTo (stepOf c e l) (other to)) → (handedIn (sentTo (stepOf c e l) side) l ≡ [] → ⊥) → Whole c e l side × Under c e l (stepOf c e l .call)
+  reaches Side.Calling Side.Calling w b n = way-whole Side.Calling refl w b n
+  reaches Side.Called Side.Called w b n = way-whole Side.Called refl w b n
+  reaches Side.Calling Side.Called w b n = absurd (n (plain-empty (stepOf c e l .calling) l b))
+  reaches Side.Called Side.Calling w b n = absurd (n (plain-empty (stepOf c e l .called) l b))
+
+handled : (c : Call) (e : Event) (l : List ℕ) (side : Side) → (handedIn (sentTo (stepOf c e l) side) l ≡ [] → ⊥) → Whole c e l side × Under c e l (stepOf c e l .call)
+handled c e l side = let p = passes c e l in reaches c e l side (p .to) (p .on) (p .back)
+
+pub unaltered : Unaltered
+unaltered c e l side n = handled c e l side n .0
+
+pub under-a-service : UnderAService
+under-a-service c e l side n = handled c e l side n .1
