@@ -4,3 +4,4 @@ pub mod Settle
 pub mod Step
 pub mod Table
 pub mod Promises
+pub mod Alone

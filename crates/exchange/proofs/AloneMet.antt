@@ -1,0 +1,49 @@
+-- The instances, computed.
+use Prim.Native.Nat.{ℕ, zero, suc, _<_}
+use native.Mathlib.Nat.{not-suc-le-zero, le-of-suc-le-suc}
+use native.Mathlib.Omega.{arith}
+use mathlib.Core.List.{List, [], _∷_}
+use mathlib.Core.Path.{_≡_, refl}
+use lib.ListN.{length, getD}
+use Rattle.rules.specs.declared.phase.Phase.{Phase}
+use Rattle.call.specs.declared.Call.{Call}
+use Rattle.meter.specs.Meter.{emptyOf, meterFitsOf, passageOf}
+use Rattle.service.specs.Element.{wellFormedOf, seenOf, goesOutOf}
+use Rattle.service.specs.Rights.{rightsFitOf, referenceFitsOf}
+use Rattle.service.specs.Standing.{remainsOf, firstStandingOf, standingsOf, lacksOf, failedOf, settlesOf}
+use Rattle.rules.specs.Asking.{nobodyAsks}
+use Rattle.call.specs.Sound.{noRights, noServices, emptyMeters, freshCall, fieldsFitOf, soundOf, inPhaseOf}
+use Rattle.call.specs.Reply.{barOf, refusedOf, heardOf, replyOf}
+use Rattle.call.specs.Setup.{setupPhaseOf, filledOf, setupCarriesOf, proceedsOf, setupOf}
+use Rattle.call.specs.Answering.{answeredCallOf, goesOnOf, clearsOf, alertingFatesOf, answeredOf, alertingOf}
+use Rattle.call.specs.Information.{metersOf, informationPassageOf, carriedOf, withElementOf, informationOf}
+use Rattle.call.specs.Disconnect.{endsOf, releaseCompleteOf}
+use Rattle.call.specs.Tick.{refillsOf, runsOf, passesTickOf, tickOf}
+use Rattle.exchange.specs.Table.{tableSound}
+use Rattle.exchange.specs.Choice.{chooseOf, chosenOf}
+use Rattle.exchange.specs.Settle.{subjectOf, keptOf, outcomeOf, refusalOf, settledOf}
+use Rattle.exchange.specs.Step.{stepOutcome, stepTable}
+use Rattle.exchange.specs.Alone.{AllFresh, Met, Needed}
+
+no-places : AllFresh []
+no-places = record { most = omega arith; fresh = λ i h. absurd (not-suc-le-zero h) }
+
+-- one fresh place more
+fresh-more : (t : List Call) → ((i : ℕ) → i < length t → getD t i freshCall .phase ≡ Phase.Fresh) → (i : ℕ) → i < length (freshCall ∷ t) → getD (freshCall ∷ t) i freshCall .phase ≡ Phase.Fresh
+unfolding freshCall
+fresh-more t h zero w = refl
+fresh-more t h (suc i) w = h i (le-of-suc-le-suc w)
+
+one-place : AllFresh (freshCall ∷ [])
+one-place = record { most = omega arith; fresh = fresh-more [] (no-places .fresh) }
+
+two-places : AllFresh (freshCall ∷ freshCall ∷ [])
+two-places = record { most = omega arith; fresh = fresh-more (freshCall ∷ []) (one-place .fresh) }
+
+pub met : Met
+unfolding emptyOf meterFitsOf passageOf wellFormedOf seenOf goesOutOf rightsFitOf referenceFitsOf remainsOf firstStandingOf standingsOf lacksOf failedOf settlesOf nobodyAsks noRights noServices emptyMeters freshCall fieldsFitOf soundOf inPhaseOf barOf refusedOf heardOf replyOf setupPhaseOf filledOf setupCarriesOf proceedsOf setupOf answeredCallOf goesOnOf clearsOf alertingFatesOf answeredOf alertingOf metersOf informationPassageOf carriedOf withElementOf informationOf endsOf releaseCompleteOf refillsOf runsOf passesTickOf tickOf tableSound chooseOf chosenOf subjectOf keptOf outcomeOf refusalOf settledOf stepOutcome stepTable
+met = record { one = one-place; two = two-places; events = refl; full = refl; numbers = refl }
+
+pub needed : Needed
+unfolding rightsFitOf referenceFitsOf freshCall soundOf barOf heardOf proceedsOf setupOf tableSound chooseOf chosenOf subjectOf keptOf outcomeOf refusalOf settledOf stepOutcome stepTable
+needed = record { none = no-places; events = refl; nowhere = refl; somewhere = refl }
