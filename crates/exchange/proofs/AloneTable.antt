@@ -1,8 +1,8 @@
 -- What a step makes of the table, seen from each reference.
-use Prim.Native.Nat.{ℕ, zero, suc, _+_, _<_}
+use Prim.Native.Nat.{ℕ, zero, suc, _<_}
 use native.Mathlib.Nat.{not-suc-le-zero, le-of-suc-le-suc}
 use native.Mathlib.Omega.{arith}
-use mathlib.Core.Bool.{Bool, true, false, cond, not, _&&_, _||_}
+use mathlib.Core.Bool.{Bool, true, false, cond, _&&_, _||_}
 use mathlib.Core.List.{List, [], _∷_}
 use mathlib.Core.Logic.{inl}
 use mathlib.Core.Path.{_≡_, refl, sym, _∙_, ap}
@@ -25,8 +25,7 @@ use Rattle.exchange.specs.Step.{tableAt, stepTable}
 use Rattle.exchange.specs.Promises.{LiveAt, FieldsIn, Faulty, over, twins, unsound, heldCall}
 use Rattle.exchange.specs.Alone.{AllFresh}
 use Rattle.exchange.proofs.Searched.{at-held}
-use Rattle.exchange.proofs.Within.{same-found, place-within}
-use Rattle.exchange.proofs.Counted.{both, and-true, clash, not-free, is-live, found-call, not-found, not-faulty, is-faulty}
+use Rattle.exchange.proofs.Counted.{both, and-true, clash, not-free, is-live, found-live, found-lowest, not-found, not-faulty, is-faulty}
 use Rattle.exchange.proofs.AloneKept.{follows-in, settled-in, opens-in}
 
 not-so : (b : Bool) → (b ≡ true → ⊥) → b ≡ false
@@ -79,26 +78,12 @@ nobody-found : (t : List Call) (n : ℕ) → findFrom t 0 n ≡ Found.Nothing �
 nobody-found t n e j = no-at t j n (λ h. not-found t n e (j, h))
 
 module _ (t : List Call) (n i : ℕ) (s : tableSound t ≡ true) (e : findFrom t 0 n ≡ Found.At i) where
-  found-at : LiveAt t i n
-  found-at = is-at t i n (ap (λ (c : Call). liveAs c n) (found-call t i n e) ∙ held-if-found t n (Found.At i) e)
-
   only-found : Only t i n
-  only-found j d = no-at t j n (λ h. apart t i j n (ltb i j) refl s d found-at h)
+  only-found j d = no-at t j n (λ h. apart t i j n (ltb i j) refl s d (found-live t i n e) h)
 
 -- the place that a SETUP takes is not live
-free-more : (c : Call) (l : List Call) (i j : ℕ) (b : Bool) → liveOf (c .phase) ≡ b → cond (not b) (Found.At j) (placeFrom l (j + 1)) ≡ Found.At i
-    → (placeFrom l (j + 1) ≡ Found.At i → (m : ℕ) × (i ≡ j + 1 + m) × (liveOf (getD l m freshCall .phase) ≡ false)) → (m : ℕ) × (i ≡ j + m) × (liveOf (getD (c ∷ l) m freshCall .phase) ≡ false)
-free-more c l i j false b e k = (0, (let same : j ≡ i = same-found j i e in omega (arith, same)), b)
-free-more c l i j true b e k = let r = k e in (suc (r .0), (let w : i ≡ j + 1 + r .0 = r .1 in omega (arith, w)), r .2)
-
-free-record : (l : List Call) (i j : ℕ) → placeFrom l j ≡ Found.At i → (m : ℕ) × (i ≡ j + m) × (liveOf (getD l m freshCall .phase) ≡ false)
-free-record [] i j e = clash true refl (sym (ap isAt e))
-free-record (c ∷ l) i j e = free-more c l i j (liveOf (c .phase)) refl e (λ f. free-record l i (j + 1) f)
-
 free-at : (t : List Call) (i : ℕ) → placeFrom t 0 ≡ Found.At i → liveOf (getD t i freshCall .phase) ≡ false
-free-at t i e =
-    let r = free-record t i 0 e in
-    let same : i ≡ r .0 = (let w : i ≡ 0 + r .0 = r .1 in omega (arith, w)) in ap (λ (m : ℕ). liveOf (getD t m freshCall .phase)) same ∙ r .2
+free-at t i e = not-so _ (λ h. not-free _ h (found-lowest t i e .free))
 
 -- ---- one record put into the table
 nobody-held : (t : List Call) (n : ℕ) → Nobody t n → heldCall t n ≡ freshCall
@@ -203,7 +188,7 @@ module _ (t : List Call) (m : ℕ) (e : Event) (l : List ℕ) (s : tableSound t 
   placed-new i eo ef eh ep =
       let r = opens-in (getD t i freshCall) m e l eo ef in
       record {
-        within = let w : i < 0 + length t = place-within t 0 i (sym ep) in omega arith;
+        within = found-lowest t i ep .within;
         before = λ k _. ap (λ (b : Bool). b && eqb (getD t i freshCall .reference) k) (free-at t i ep);
         reference = r .reference;
         fields = λ h. h (r .fields);
@@ -213,7 +198,7 @@ module _ (t : List Call) (m : ℕ) (e : Event) (l : List ℕ) (s : tableSound t 
   pub placed-old : (i : ℕ) → opensOf e ≡ false → findFrom t 0 (referenceOf m e) ≡ Found.At i → Placed t (referenceOf m e) i (settledOf (getD t i freshCall) e l .call)
   placed-old i eo eh =
       let n = referenceOf m e in
-      let a = found-at t n i s eh in
+      let a = found-live t i n eh in
       let r = settled-in (getD t i freshCall) e l eo in
       record {
         within = a .within;
