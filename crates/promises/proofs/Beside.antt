@@ -1,7 +1,7 @@
 -- Two records side by side, the second with rights no less: what holds of them while the first call is up.
-use Prim.Native.Nat.{ℕ, _+_, _-_, _≤_, _<_}
-use mathlib.Core.Bool.{Bool, true, false, cond, _&&_, _||_, not}
-use mathlib.Core.Path.{_≡_, refl, sym, ap, _∙_}
+use Prim.Native.Nat.{ℕ, _+_, _≤_, _<_}
+use mathlib.Core.Bool.{Bool, true, false, cond, _&&_}
+use mathlib.Core.Path.{_≡_, refl, sym, _∙_}
 use native.Mathlib.Omega.{arith}
 use borrow.Author.Tests.{ltb-true, ltb-false, leb-true, leb-false}
 use lib.Dec.{ltb, leb}
@@ -18,7 +18,7 @@ use Rattle.call.specs.declared.Call.{Call}
 use Rattle.call.specs.declared.Meters.{Meters}
 use Rattle.meter.specs.Meter.{grantedOf, refilledOf, tickedOf, countedOf, spentOf, markedOf, underThreeOf, passageOf, afterOf}
 use Rattle.service.specs.Rights.{hasOf}
-use Rattle.service.specs.Standing.{inForceOf, awaitsOf, remainsOf, decidedOf, settledOf, failureOf, closingStandingOf}
+use Rattle.service.specs.Standing.{inForceOf, remainsOf, decidedOf, settledOf, failureOf, closingStandingOf}
 use Rattle.rules.specs.Asking.{nobodyAsks}
 use Rattle.rules.specs.Serving.{lateOf, passesOf}
 use Rattle.call.specs.Answering.{grantsOf, inForceAfterOf}
@@ -175,9 +175,9 @@ under-view two three m h p =
     by-cond (Viewed two three m) (m .mark) (λ _. stops h (λ _. ltb-false _ _ q) refl refl)
     (λ _. stops h (λ _. ltb-false _ _ q) refl refl))
 
-spent-count : (two b : Bool) (m : Meter) → (two && ltb (m .count) 2) ≡ false → two ≡ true → 2 ≤ m .count
-spent-count true b m h p = ltb-false _ _ h
-spent-count false b m h p = never p refl
+spent-count : (two : Bool) (m : Meter) → (two && ltb (m .count) 2) ≡ false → two ≡ true → 2 ≤ m .count
+spent-count true m h p = ltb-false _ _ h
+spent-count false m h p = never p refl
 
 open-count : (two b : Bool) → (two && b) ≡ true → b ≡ true
 open-count true b h = h
@@ -189,10 +189,10 @@ passage-view two three m =
     by-cond (Viewed two three m) (two && ltb (m .count) 2)
     (λ t. counts (and-left two _ t) (ltb-true _ _ (open-count two _ t)) refl refl)
     (λ t.
-    by-cond (Viewed two three m) three (λ p. under-view two three m (spent-count two two m t) p)
+    by-cond (Viewed two three m) three (λ p. under-view two three m (spent-count two m t) p)
     (λ p.
-    by-cond (Viewed two three m) two (λ _. stops (spent-count two two m t) (λ q. never q p) refl refl)
-    (λ _. stops (spent-count two two m t) (λ q. never q p) refl refl)))
+    by-cond (Viewed two three m) two (λ _. stops (spent-count two m t) (λ q. never q p) refl refl)
+    (λ _. stops (spent-count two m t) (λ q. never q p) refl refl)))
 
 -- the same message in both meters: what passes in the first passes in the second, and the meters stay in order
 module _ (t h t' h' force : Bool) (m m' : Meter) (two : t ≡ true → t' ≡ true) (on : h ≡ true → force ≡ true) (alike : force ≡ true → h' ≡ h) (r : Poorer t force m m') where

@@ -22,7 +22,7 @@ use Rattle.call.specs.Tick.{tickedMetersOf, refillsOf, readyOf, runsOf, passesT
 use Rattle.call.specs.Step.{notAnEventOf}
 use Rattle.promises.specs.Numbers.{RightsInRange, Has}
 use Rattle.promises.specs.MoreRights.{NoLess, nothing, octets}
-use Rattle.promises.specs.MoreInstances.{rightsOf, MoreInstances, mended, Without, lastIn, GoesWrong, NoneLeftOut}
+use Rattle.promises.specs.MoreInstances.{rightsOf, MoreInstances, mended, Without, lastIn, GoesWrong, NoneLeftOut, CreditShown}
 use Rattle.promises.proofs.Conditions.{rights-range}
 
 -- rights that differ in no premise
@@ -52,7 +52,7 @@ every late leave limit burst refill Service.Two = refl
 every late leave limit burst refill Service.Three = refl
 
 -- all under one line that opens the definitions
-computed : MoreInstances × NoneLeftOut
+computed : MoreInstances × NoneLeftOut × CreditShown
 unfolding emptyOf meterFitsOf grantedOf countedOf spentOf markedOf underThreeOf passageOf wellFormedOf seenOf goesOutOf rightsFitOf referenceFitsOf remainsOf firstStandingOf standingsOf lacksOf passedRequestsOf networkRefusalsOf failedOf settlesOf tellsOf declinesOf silence nobodyAsks sayingOf bareOf congestionOf informsOf onlyIfOf noRights noServices emptyMeters freshCall fieldsFitOf soundOf inPhaseOf barOf refusedOf heardOf replyOf setupPhaseOf filledOf toCallerOf toCalledOf setupCarriesOf proceedsOf setupOf grantsOf answeredCallOf goesOnOf clearsOf alertingFatesOf connectFatesOf answeredOf alertingOf connectOf metersOf informationPassageOf carriedOf withElementOf informationOf refilledOf tickedOf toRequestOf toAnswerOf silentAnswers closingFacilitiesOf closedCallOf passedOnOf disconnectOf facilityVerdictOf facilityCallOf aboutThreeOf passesFacilityOf facilityOf tickedMetersOf refillsOf readyOf runsOf passesTickOf tickOf notAnEventOf
 computed = (
   (
@@ -87,7 +87,8 @@ computed = (
       second = refl;
     },
   ),
-  (wrong _ refl refl refl refl refl, (wrong _ refl refl refl refl refl, (wrong _ refl refl refl refl refl, (wrong _ refl refl refl refl refl, (wrong _ refl refl refl refl refl, (wrong _ refl refl refl refl refl, (wrong _ refl refl refl refl refl, (wrong _ refl refl refl refl refl, (wrong _ refl refl refl refl refl, (wrong _ refl refl refl refl refl, tt)))))))))),
+  ((wrong _ refl refl refl refl refl, (wrong _ refl refl refl refl refl, (wrong _ refl refl refl refl refl, (wrong _ refl refl refl refl refl, (wrong _ refl refl refl refl refl, (wrong _ refl refl refl refl refl, (wrong _ refl refl refl refl refl, (wrong _ refl refl refl refl refl, (wrong _ refl refl refl refl refl, (wrong _ refl refl refl refl refl, tt)))))))))), (refl, refl)),
+  (refl, refl),
 )
 
 pub more-instances : MoreInstances
@@ -95,3 +96,6 @@ more-instances = computed .0
 
 pub none-left-out : NoneLeftOut
 none-left-out = computed .1
+
+pub credit-shown : CreditShown
+credit-shown = computed .2

@@ -1,8 +1,8 @@
 -- More rights never hand over less: one event, then runs.
-use Prim.Native.Nat.{ℕ, _≤_}
+use Prim.Native.Nat.{ℕ}
 use mathlib.Core.List.{List, [], _∷_}
 use mathlib.Core.Bool.{Bool, true, false, cond, _&&_, _||_, not}
-use mathlib.Core.Logic.{_⊎_, inl, inr, ⊎-elim}
+use mathlib.Core.Logic.{inl, inr, ⊎-elim}
 use mathlib.Core.Path.{_≡_, refl, sym, ap, _∙_}
 use native.Mathlib.Omega.{arith}
 use Rattle.meter.specs.declared.Meter.{Meter}
@@ -31,18 +31,18 @@ use Rattle.call.specs.declared.Call.{Call}
 use Rattle.call.specs.declared.Event.{Event}
 use Rattle.call.specs.declared.Meters.{Meters}
 use Rattle.call.specs.declared.reply.Reply.{Reply}
-use Rattle.meter.specs.Meter.{emptyOf, tickedOf, afterOf, passageOf}
+use Rattle.meter.specs.Meter.{tickedOf, afterOf}
 use Rattle.service.specs.Element.{seenOf, wholeOf, goesOutOf}
 use Rattle.service.specs.Rights.{hasOf, rightsFitOf, referenceFitsOf}
-use Rattle.service.specs.Standing.{inForceOf, remainsOf, askedStandingOf, impliedOf, firstStandingOf, standingsOf, lackingOf, lacksOf, decidedOf, settledOf, settlesOf, failureOf, failedOf, closingStandingOf}
+use Rattle.service.specs.Standing.{inForceOf, askedStandingOf, impliedOf, firstStandingOf, standingsOf, lackingOf, lacksOf, decidedOf, settledOf, settlesOf, failureOf, failedOf}
 use Rattle.rules.specs.Answer.{takenOf}
-use Rattle.rules.specs.Asking.{nobodyAsks, asksOf, mayAskOf, toRequestOf, toAnswerOf, facilityAnswerOf, facilityThreeOf, facilityAskingOf}
+use Rattle.rules.specs.Asking.{nobodyAsks, asksOf, mayAskOf, toRequestOf, toAnswerOf, facilityAnswerOf, facilityThreeOf}
 use Rattle.rules.specs.Message.{sayingOf, bareOf, congestionOf, informsOf, onlyIfOf}
 use Rattle.rules.specs.Phase.{freshOf, requestedOf, connectableOf, talkingOf, activeOf, upOf, liveOf}
 use Rattle.rules.specs.Serving.{lateOf, servesTwoOf, servesThreeOf, passesOf}
 use Rattle.rules.specs.Side.{peerOf}
-use Rattle.call.specs.Answering.{grantsOf, inForceAfterOf, answeredCallOf, goesOnOf, clearsOf, outcomeOf, alertingFatesOf, connectFatesOf, answeredOf, alertingOf, connectOf}
-use Rattle.call.specs.Disconnect.{heardAnswersOf, closedCallOf, passedOnOf, disconnectOf, endsOf, releaseCompleteOf}
+use Rattle.call.specs.Answering.{answeredCallOf, goesOnOf, clearsOf, outcomeOf, alertingFatesOf, connectFatesOf, answeredOf, alertingOf, connectOf}
+use Rattle.call.specs.Disconnect.{closedCallOf, passedOnOf, disconnectOf, endsOf, releaseCompleteOf}
 use Rattle.call.specs.Facility.{facilityVerdictOf, facilityMetersOf, facilityCallOf, aboutThreeOf, passesFacilityOf, facilityOf}
 use Rattle.call.specs.Information.{meterOf, withMeterOf, metersOf, informationPassageOf, carriedOf, withElementOf, informationOf}
 use Rattle.call.specs.Reply.{barOf, refusedOf, heardOf, replyOf}
@@ -50,14 +50,14 @@ use Rattle.call.specs.Setup.{setupPhaseOf, filledOf, toCallerOf, toCalledOf, se
 use Rattle.call.specs.Sound.{soundOf, freshCall, inPhaseOf, emptyMeters}
 use Rattle.call.specs.Step.{notAnEventOf, stepOf}
 use Rattle.call.specs.Tick.{tickedMetersOf, refillsOf, readyOf, runsOf, passesTickOf, tickOf}
-use Rattle.promises.specs.Numbers.{Up, Live, InRangeCall}
+use Rattle.promises.specs.Numbers.{Live, InRangeCall}
 use Rattle.promises.specs.Sound.{Offered, runOf}
-use Rattle.promises.specs.MoreRights.{eventWith, withRights, NoLess, Got, nothing, octets, gotOf, handedOf, Kept, NoFewer, end, also, InStep, MoreRights}
-use Rattle.promises.proofs.Decide.{never, by-cond}
+use Rattle.promises.specs.MoreRights.{eventWith, withRights, NoLess, nothing, octets, gotOf, handedOf, Kept, NoFewer, end, also, InStep, MoreRights}
+use Rattle.promises.proofs.Decide.{never}
 use Rattle.promises.proofs.Heard.{Heard, through, barred, heard}
-use Rattle.promises.proofs.Conditions.{fresh, requested, connectable, talking, active, up, live, rights-range, unsound, has}
+use Rattle.promises.proofs.Conditions.{requested, connectable, talking, active, up, live, rights-range, unsound, has}
 use Rattle.promises.proofs.Sound.{step-in}
-use Rattle.promises.proofs.Beside.{and-right, and-left, idleOf, easyOf, Above, same, less, idle-force, force-up, remains-up, closing-up, Twin, twin-kept, twin-decided, twin-due, Third, shared, apart, above-third, Poorer, countsOf, passages, ticked-poorer, Poor, granted-count, grants-poor, third-poor, third-settled, Below}
+use Rattle.promises.proofs.Beside.{and-right, and-left, idleOf, easyOf, Above, same, less, idle-force, force-up, remains-up, closing-up, twin-decided, twin-due, Third, shared, apart, above-third, Poorer, countsOf, passages, ticked-poorer, Poor, granted-count, grants-poor, third-poor, third-settled, Below}
 
 -- whether the event's element goes out in a message
 abbrev carriesOf : Sent → Bool

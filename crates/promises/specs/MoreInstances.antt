@@ -4,7 +4,6 @@ use mathlib.Core.List.{List, [], _∷_, _++_}
 use mathlib.Core.Bool.{Bool, true, false}
 use mathlib.Core.Path.{_≡_}
 use Rattle.service.specs.declared.rights.Rights.{Rights}
-use Rattle.service.specs.declared.standing.Answers.{Answers}
 use Rattle.service.specs.declared.standing.Given.{Given}
 use Rattle.service.specs.declared.standing.Request.{Request}
 use Rattle.rules.specs.declared.asking.What.{What}
@@ -15,6 +14,7 @@ use Rattle.promises.specs.Numbers.{RightsInRange}
 use Rattle.promises.specs.Sound.{Offered}
 use Rattle.promises.specs.Edges.{elementOf, setup, silent}
 use Rattle.promises.specs.Instances.{bare}
+use Rattle.promises.specs.Credit.{historyOf, Purse, accountOf, unopened}
 use Rattle.promises.specs.MoreRights.{withRights, NoLess, Got, nothing, octets, Handed, handedOf}
 
 abbrev pub rightsOf : ℕ → Bool → Bool → ℕ → ℕ → ℕ → Rights
@@ -72,8 +72,8 @@ talk =
     ∷ record { event = Event.Disconnect Side.Called 16 silent; element = elementOf 11 }
     ∷ []
 
--- Service 2 added, with late delivery on both lines. The message sent while it rings goes over in the second run alone, under service 2, and so does
--- one of the connected ones: none of the three spends the credit of service 3 that the first line's messages have.
+-- Service 2 added, with late delivery on both lines. In the second run the count of service 2 pays for the message sent while it rings and for the
+-- first one after CONNECT, and credit for the two after that; in the first run credit pays for the first two after CONNECT.
 abbrev pub twoAdded : Pair
 twoAdded =
     record {
@@ -236,6 +236,25 @@ withouts =
     }
     ∷ []
 
+-- the second rights out of range, and every other premise met: its SETUP is refused
+abbrev pub outOfRange : Rights
+outOfRange = rightsOf 7 true true 10 256 2
+
+abbrev pub OutOfRangeWrong : Type 0
+OutOfRangeWrong =
+    (lastIn full (starts Request.Unasked Request.Unasked (elementOf 4) ∷ []) ≡ octets (elementOf 4))
+    × (lastIn outOfRange (starts Request.Unasked Request.Unasked (elementOf 4) ∷ []) ≡ nothing)
+
 -- WITHOUT. No premise can be left out.
 abbrev pub NoneLeftOut : Type 0
-NoneLeftOut = EachWrong withouts
+NoneLeftOut = EachWrong withouts × OutOfRangeWrong
+
+-- the account of the calling side's messages: two under the count and two under credit; and two under credit, then a tick
+abbrev pub purseAfter : Rights → List Offered → Purse
+purseAfter r os = accountOf unopened (historyOf freshCall (withRights r os)) .calling
+
+abbrev pub CreditShown : Type 0
+CreditShown =
+    (purseAfter (twoAdded .second) talk ≡ record { credit = 0; count = 2 })
+    × (purseAfter (twoAdded .second) (served ++ (informs Side.Calling 4 ∷ informs Side.Calling 4 ∷ bare Event.Tick ∷ []))
+    ≡ record { credit = 1; count = 0 })
