@@ -1,0 +1,136 @@
+// A trace from standard input to standard output, in a fixed amount of memory. What is printed is computed in `rerun` and
+// `report`; here octets are only read, kept and written.
+use call::Call;
+use component::room::end_of;
+use libc::STDIN_FILENO;
+use libc::STDOUT_FILENO;
+use report::write_first;
+use rerun::Worked;
+use rerun::work_off;
+
+// The octets of the trace that the buffer holds, from one place to another, and the calls. last: nothing more comes after
+// these octets. more: the run goes on.
+struct Held {
+    calls: [Call; 32],
+    from: usize,
+    to: usize,
+    last: bool,
+    more: bool,
+}
+
+fn send(out: &[u8], n: usize) -> bool {
+    if n > out.len() {
+        return false;
+    }
+    io::write_all(STDOUT_FILENO, &out[0..n])
+}
+
+// Moves the octets that are left to the buffer's front: how many they are.
+fn keep(buf: &mut [u8], from: usize, to: usize) -> usize {
+    if from > to {
+        return 0;
+    }
+    if to > buf.len() {
+        return 0;
+    }
+    let n = to - from;
+    let mut i: usize = 0;
+    while i < n {
+        buf[i] = buf[from + i];
+        i += 1;
+    }
+    n
+}
+
+// Reads once, after the octets that the buffer holds: how many came.
+fn fetch(buf: &mut [u8], held: usize) -> usize {
+    if held >= buf.len() {
+        return 0;
+    }
+    let part = &mut buf[held..];
+    let got = libc::read(STDIN_FILENO, part);
+    io::count(got, part)
+}
+
+fn lines(buf: &[u8], h: Held, explained: bool, out: &mut [u8]) -> Worked {
+    let calls = h.calls;
+    let from = h.from;
+    let to = h.to;
+    if from > to {
+        return Worked {
+            calls: calls,
+            used: 0,
+            wrote: 0,
+            ended: false,
+        };
+    }
+    if to > buf.len() {
+        return Worked {
+            calls: calls,
+            used: 0,
+            wrote: 0,
+            ended: false,
+        };
+    }
+    work_off(calls, &buf[from..to], h.last, explained, out)
+}
+
+// What is held goes to the buffer's front, and more is read after it. Where nothing comes, what is held is the last.
+fn refill(buf: &mut [u8], h: Held) -> Held {
+    let left = keep(buf, h.from, h.to);
+    let got = fetch(buf, left);
+    let calls = h.calls;
+    Held {
+        calls: calls,
+        from: 0,
+        to: std::num::wrapping_add_usize(left, got),
+        last: got == 0,
+        more: !h.last,
+    }
+}
+
+// Prints what can be printed of what is held, or reads more.
+fn turn(buf: &mut [u8], out: &mut [u8], explained: bool, h: Held) -> Held {
+    let w = lines(buf, h, explained, out);
+    let wrote = w.wrote;
+    if wrote == 0 {
+        return refill(buf, h);
+    }
+    let sent = send(out, wrote);
+    let calls = w.calls;
+    Held {
+        calls: calls,
+        from: std::num::wrapping_add_usize(h.from, w.used),
+        to: h.to,
+        last: h.last,
+        more: sent & !w.ended,
+    }
+}
+
+fn step(buf: &mut [u8; 262144], out: &mut [u8; 262144], explained: bool, h: Held) -> Held {
+    turn(buf, out, explained, h)
+}
+
+fn first(out: &mut [u8; 262144], explained: bool) -> bool {
+    let n = end_of(write_first(out, 0, explained));
+    send(out, n)
+}
+
+// 32 places, all fresh.
+pub fn run(explained: bool) {
+    let fresh = Call::fresh();
+    let mut buf = [0u8; 262144];
+    let mut out = [0u8; 262144];
+    let mut h = Held {
+        calls: [fresh; 32],
+        from: 0,
+        to: 0,
+        last: false,
+        more: first(&mut out, explained),
+    };
+    let mut turns = u64::MAX;
+    while turns > 0 && h.more {
+        h = step(&mut buf, &mut out, explained, h);
+        turns -= 1;
+    }
+}

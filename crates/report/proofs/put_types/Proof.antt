@@ -1,0 +1,25 @@
+use native.Mathlib.Omega.{arith}
+use Rattle.report.specs.Line.{typeColumns}
+use Rattle.text.proofs.Pieced.{two}
+use borrow.Author.Needs.{needs}
+use Rattle.report.proofs.put_types.Statement.{statement}
+use Rattle.report.proofs.put_types.Tie as tie
+use Rattle.report.proofs.put_types.Reads as reads
+use Rattle.report.proofs.put_types.Lts as lts
+use Rattle.report.proofs.put_type.Reads as put-type-reads
+
+put-type-requires : tie.Need-put-type-requires
+put-type-requires c κs = search needs
+
+put-type-requires-2 : tie.Need-put-type-requires-2
+put-type-requires-2 c κs = search needs
+
+same-length : tie.Need-same-length
+same-length c = search needs
+
+returns : tie.Need-returns
+unfolding typeColumns
+returns c = two (omega arith) (c .before .before .before .before .before .before .put-type .ensures) (c .before .before .put-type2 .ensures)
+
+pub put-types-spec : {M : Type 1} → statement M
+put-types-spec = tie.close (tie.spec put-type-requires put-type-requires-2 same-length returns)

@@ -1,0 +1,65 @@
+-- What `replay` and `explain` print of a record.
+use Prim.Native.Nat.{ℕ}
+use mathlib.Core.List.{List, [], _∷_, _++_}
+use mathlib.Core.Bool.{Bool, true, false}
+use Rattle.service.specs.Element.{noteNumberOf}
+use Rattle.rules.specs.declared.message.Sent.{Sent}
+use Rattle.rules.specs.Message.{kindNumberOf}
+use Rattle.trace.specs.declared.reading.Fault.{Fault}
+use Rattle.trace.specs.Kind.{kindOctet}
+use Rattle.trace.specs.Reading.{faultNumber}
+use Rattle.text.specs.Decimal.{decimalOf}
+use Rattle.text.specs.Hex.{hexOf}
+use Rattle.report.specs.declared.Columns.{Columns}
+use Rattle.report.specs.Items.{dash, messageColumn}
+
+-- a column, after the space that parts it from the one before
+abbrev pub column : List ℕ → List ℕ
+column c = 32 ∷ c
+
+-- "the last two columns the type sent in hexadecimal or `-`"
+abbrev pub typeColumn : Sent → List ℕ
+typeColumn Sent.Absent = dash
+typeColumn (Sent.Present m) = hexOf (kindNumberOf (m .kind))
+
+-- "a line is the line of `replay` and two more columns": only where the messages are explained
+abbrev pub saidColumns : Bool → Columns → List ℕ
+saidColumns true o = column (messageColumn (o .calling)) ++ column (messageColumn (o .called))
+saidColumns false o = []
+
+-- kind, reference, answer and note, "in decimal"
+unfoldable pub numberColumns : Columns → List ℕ
+numberColumns o =
+    decimalOf (kindOctet (o .kind)) ++ column (decimalOf (o .reference)) ++ column (decimalOf (o .answer)) ++ column (decimalOf (noteNumberOf (o .note)))
+
+unfoldable pub typeColumns : Columns → List ℕ
+typeColumns o = column (typeColumn (o .calling)) ++ column (typeColumn (o .called))
+
+-- "then one line a record in decimal", of `replay` or, explained, of `explain`: 10 ends it
+unfoldable pub lineOf : Bool → Columns → List ℕ
+lineOf explained o = numberColumns o ++ typeColumns o ++ saidColumns explained o ++ (10 ∷ [])
+
+-- "`kind ref answer note calling called`"
+abbrev pub sixNames : List ℕ
+sixNames =
+    107 ∷ 105 ∷ 110 ∷ 100 ∷ 32
+    ∷ 114 ∷ 101 ∷ 102 ∷ 32
+    ∷ 97 ∷ 110 ∷ 115 ∷ 119 ∷ 101 ∷ 114 ∷ 32
+    ∷ 110 ∷ 111 ∷ 116 ∷ 101 ∷ 32
+    ∷ 99 ∷ 97 ∷ 108 ∷ 108 ∷ 105 ∷ 110 ∷ 103 ∷ 32
+    ∷ 99 ∷ 97 ∷ 108 ∷ 108 ∷ 101 ∷ 100 ∷ []
+
+-- "First line exactly `kind ref answer note calling called to-calling to-called`": the same six names and two more
+abbrev pub twoNames : List ℕ
+twoNames =
+    32 ∷ 116 ∷ 111 ∷ 45 ∷ 99 ∷ 97 ∷ 108 ∷ 108 ∷ 105 ∷ 110 ∷ 103
+    ∷ 32 ∷ 116 ∷ 111 ∷ 45 ∷ 99 ∷ 97 ∷ 108 ∷ 108 ∷ 101 ∷ 100 ∷ []
+
+-- "Its first line is exactly .."
+abbrev pub firstLine : Bool → List ℕ
+firstLine false = sixNames ++ (10 ∷ [])
+firstLine true = sixNames ++ twoNames ++ (10 ∷ [])
+
+-- "A trace fault prints `error 31` (or 32, 33)"
+abbrev pub faultLine : Fault → List ℕ
+faultLine f = 101 ∷ 114 ∷ 114 ∷ 111 ∷ 114 ∷ 32 ∷ (decimalOf (faultNumber f) ++ (10 ∷ []))
