@@ -12,6 +12,8 @@ pub mod Notes
 pub mod Numbers
 pub mod Refusals
 pub mod Required
+pub mod Samples
 pub mod Seen
+pub mod Sending
 pub mod ShutOut
 pub mod Sound

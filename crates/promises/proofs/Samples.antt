@@ -1,0 +1,29 @@
+-- What is written for messages of real calls, computed.
+use mathlib.Core.Path.{refl}
+use Rattle.meter.specs.Meter.{emptyOf, meterFitsOf, grantedOf, countedOf, spentOf, markedOf, refilledOf, tickedOf, underThreeOf, passageOf}
+use Rattle.service.specs.Element.{wellFormedOf, seenOf, goesOutOf}
+use Rattle.service.specs.Rights.{rightsFitOf, referenceFitsOf}
+use Rattle.service.specs.Standing.{remainsOf, firstStandingOf, standingsOf, lacksOf, passedRequestsOf, networkRefusalsOf, failedOf, settlesOf, tellsOf, declinesOf, silence, silentAnswers}
+use Rattle.rules.specs.Asking.{nobodyAsks, toRequestOf, toAnswerOf}
+use Rattle.rules.specs.Message.{sayingOf, bareOf, congestionOf, informsOf, onlyIfOf}
+use Rattle.call.specs.Sound.{noRights, noServices, emptyMeters, freshCall, fieldsFitOf, soundOf, inPhaseOf}
+use Rattle.call.specs.Reply.{barOf, refusedOf, heardOf, replyOf}
+use Rattle.call.specs.Setup.{setupPhaseOf, filledOf, toCallerOf, toCalledOf, setupCarriesOf, proceedsOf, setupOf}
+use Rattle.call.specs.Answering.{grantsOf, answeredCallOf, goesOnOf, clearsOf, alertingFatesOf, connectFatesOf, answeredOf, alertingOf, connectOf}
+use Rattle.call.specs.Information.{metersOf, informationPassageOf, carriedOf, withElementOf, informationOf}
+use Rattle.call.specs.Disconnect.{closingFacilitiesOf, closedCallOf, passedOnOf, disconnectOf}
+use Rattle.call.specs.Facility.{facilityVerdictOf, facilityCallOf, aboutThreeOf, passesFacilityOf, facilityOf}
+use Rattle.call.specs.Tick.{tickedMetersOf, refillsOf, readyOf, runsOf, passesTickOf, tickOf}
+use Rattle.call.specs.Step.{notAnEventOf}
+use Rattle.component.specs.Cause.{causeOf}
+use Rattle.component.specs.Facility.{size, stand, spells, filled, serviceOf, wishOf, refusalOf, readAs, invokeOf, resultOf, errorOf, facilityOf as componentOf}
+use Rattle.component.specs.Room.{placed, wroteOf, leftOf}
+use Rattle.message.specs.Elements.{then, elements, counted}
+use Rattle.message.specs.Kind.{kindOf}
+use Rattle.message.specs.Reading.{singleOf, firstSingle, firstCause, firstPlace, components, readingOf, takenOf, headedOf, readOf, userUserOf}
+use Rattle.writer.specs.Writing.{frontOctets, messageOctets, userFits, messageFits}
+use Rattle.promises.specs.Sending.{Samples}
+
+pub samples : Samples
+unfolding emptyOf meterFitsOf grantedOf countedOf spentOf markedOf underThreeOf passageOf wellFormedOf seenOf goesOutOf rightsFitOf referenceFitsOf remainsOf firstStandingOf standingsOf lacksOf passedRequestsOf networkRefusalsOf failedOf settlesOf tellsOf declinesOf silence nobodyAsks sayingOf bareOf congestionOf informsOf onlyIfOf noRights noServices emptyMeters freshCall fieldsFitOf soundOf inPhaseOf barOf refusedOf heardOf replyOf setupPhaseOf filledOf toCallerOf toCalledOf setupCarriesOf proceedsOf setupOf grantsOf answeredCallOf goesOnOf clearsOf alertingFatesOf connectFatesOf answeredOf alertingOf connectOf metersOf informationPassageOf carriedOf withElementOf informationOf refilledOf tickedOf toRequestOf toAnswerOf silentAnswers closingFacilitiesOf closedCallOf passedOnOf disconnectOf facilityVerdictOf facilityCallOf aboutThreeOf passesFacilityOf facilityOf tickedMetersOf refillsOf readyOf runsOf passesTickOf tickOf notAnEventOf causeOf size stand spells filled serviceOf wishOf refusalOf readAs invokeOf resultOf errorOf componentOf placed wroteOf leftOf then elements counted kindOf singleOf firstSingle firstCause firstPlace components readingOf takenOf headedOf readOf userUserOf frontOctets messageOctets userFits messageFits
+samples = (refl, refl, (refl, refl, (refl, refl, (refl, refl, (refl, refl, (refl, refl, (refl, refl, tt)))))))
