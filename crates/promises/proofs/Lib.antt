@@ -1,3 +1,4 @@
+pub mod Apart
 pub mod Beside
 pub mod Conditions
 pub mod Credit

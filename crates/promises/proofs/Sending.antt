@@ -5,18 +5,16 @@ use mathlib.Core.Bool.{Bool, true, false, cond}
 use mathlib.Core.Logic.{_⊎_, inl, inr, ⊎-elim}
 use mathlib.Core.Path.{_≡_, refl, sym, ap, _∙_}
 use native.Mathlib.Omega.{arith}
-use lib.ListN.{length, take}
+use lib.ListN.{length}
 use Rattle.component.specs.declared.facility.Component.{Component}
 use Rattle.component.specs.declared.facility.Facility.{Facility}
 use Rattle.component.specs.declared.facility.Service.{Service}
-use Rattle.component.specs.declared.room.Wrote.{Wrote}
 use Rattle.component.specs.Facility.{invokeNumber}
 use Rattle.component.specs.Numbers.{wroteNumber}
-use Rattle.component.specs.Room.{wroteOf}
 use Rattle.message.specs.declared.fields.Message.{Message as LineMessage}
 use Rattle.message.specs.declared.fields.Single.{Single}
-use Rattle.message.specs.Reading.{andSays, firstThree, userUserOf}
-use Rattle.octets.specs.Promises.{SingleIn, CauseIn, FacilitiesIn, UserElement, InRange, answerOf, bufferOf, Back}
+use Rattle.message.specs.Reading.{andSays, firstThree}
+use Rattle.octets.specs.Promises.{SingleIn, CauseIn, FacilitiesIn, UserElement, InRange, answerOf}
 use Rattle.octets.proofs.Promises.{reads, round-trip, writes}
 use Rattle.octets.proofs.Range.{range-fits}
 use Rattle.octets.proofs.Trip.{message-back}
@@ -64,8 +62,8 @@ use Rattle.promises.specs.Numbers.{Live, WellFormed}
 use Rattle.promises.specs.Notes.{limitFor}
 use Rattle.promises.specs.Refusals.{sentTo}
 use Rattle.promises.specs.Handling.{handedIn, handedTo}
-use Rattle.promises.specs.Sending.{kindFor, singleFor, causeFor, componentFor, Host, HostInRange, facilitiesFor, wireOf, OnTheLine, Sending}
-use Rattle.promises.proofs.Decide.{never, by-cond, both, le}
+use Rattle.promises.specs.Sending.{kindFor, singleFor, causeFor, componentFor, Host, HostInRange, facilitiesFor, wireOf, Sending}
+use Rattle.promises.proofs.Decide.{by-cond, both, le}
 use Rattle.promises.proofs.Heard.{Heard, through, barred, heard}
 use Rattle.promises.proofs.Conditions.{requested, connectable, talking, active, up, live, reference-range, rights-range, in-range}
 use Rattle.promises.proofs.Handling.{unaltered}
@@ -97,10 +95,18 @@ facilities-in h s i =
     (says-in (h .one) Service.One (s .one) later (i .one)
     (says-in (h .two) Service.Two (s .two) last (i .two) (says-in (h .three) Service.Three (s .three) [] (i .three) tt)))
 
+-- whether a single octet is More data
+abbrev pub moreIn : Single → Bool
+moreIn Single.Absent = false
+moreIn Single.MoreData = true
+moreIn Single.Ready = false
+moreIn Single.NotReady = false
+
 -- a message that the writer takes, once the host's numbers and the element are in range; and the limit on the element is
-record Fits (limit : ℕ) (m : Message) : Type 0 where
+pub record Fits (limit : ℕ) (m : Message) : Type 0 where
   most : limit ≤ 131
   single : SingleIn (kindFor (m .kind)) (singleFor (m .level) (m .more))
+  pub more : moreIn (singleFor (m .level) (m .more)) ≡ m .more
   cause : CauseIn (causeFor (m .cause))
 
 abbrev Sends : ℕ → Sent → Type 0
@@ -131,16 +137,16 @@ module _ (limit : ℕ) (most : limit ≤ 131) where
 
   saying-sends : (kind : Kind) (cause : Cause) (said : Facilities) (element : Bool) → SingleIn (kindFor kind) Single.Absent → CauseIn (causeFor cause) → Sends limit (sayingOf kind cause said element)
   unfolding sayingOf
-  saying-sends kind cause said element s k = record { most = most; single = s; cause = k }
+  saying-sends kind cause said element s k = record { most = most; single = s; more = refl; cause = k }
 
   informs-sends : (more : Bool) → Sends limit (informsOf more)
   unfolding informsOf
-  informs-sends true = record { most = most; single = inr refl; cause = tt }
-  informs-sends false = record { most = most; single = inl refl; cause = tt }
+  informs-sends true = record { most = most; single = inr refl; more = refl; cause = tt }
+  informs-sends false = record { most = most; single = inl refl; more = refl; cause = tt }
 
-  congestion-sends : (level : Level) → (singleFor level false ≡ Single.Ready) ⊎ (singleFor level false ≡ Single.NotReady) → Sends limit (congestionOf level)
+  congestion-sends : (level : Level) → (singleFor level false ≡ Single.Ready) ⊎ (singleFor level false ≡ Single.NotReady) → moreIn (singleFor level false) ≡ false → Sends limit (congestionOf level)
   unfolding congestionOf
-  congestion-sends level s = record { most = most; single = s; cause = omega arith }
+  congestion-sends level s k = record { most = most; single = s; more = k; cause = omega arith }
 
   side-speaks : (side : Side) (d : Call) (a : Answer) (note : Note) (back on : Sent) → Sends limit back → Sends limit on → Speaks limit (replyOf side d a note back on)
   unfolding replyOf
@@ -169,7 +175,7 @@ module _ (limit : ℕ) (most : limit ≤ 131) where
   carried-speaks : (c : Call) (side : Side) (more : Bool) (p : Passage) → Speaks limit (carriedOf c side more p)
   unfolding carriedOf
   carried-speaks c side more p =
-      side-speaks side _ _ _ _ _ (only-sends (marksOf p) _ (congestion-sends Level.NotReady (inr refl)))
+      side-speaks side _ _ _ _ _ (only-sends (marksOf p) _ (congestion-sends Level.NotReady (inr refl) refl))
       (only-sends (passesOf p) _ (informs-sends more))
 
   element-speaks : (c : Call) (side : Side) (more : Bool) (seen : Seen) → Speaks limit (withElementOf c seen (carriedOf c side more (informationPassageOf c side)))
@@ -182,8 +188,8 @@ module _ (limit : ℕ) (most : limit ≤ 131) where
   unfolding passesTickOf readyOf
   tick-speaks c =
       record {
-        calling = only-sends _ _ (congestion-sends Level.Ready (inl refl));
-        called = only-sends _ _ (congestion-sends Level.Ready (inl refl));
+        calling = only-sends _ _ (congestion-sends Level.Ready (inl refl) refl);
+        called = only-sends _ _ (congestion-sends Level.Ready (inl refl) refl);
       }
 
 -- the cause of a failed service
@@ -251,7 +257,7 @@ speaks c Event.CongestionControl l = refused-speaks _ c _ _
 
 -- the message to a side
 module _ (c : Call) (e : Event) (l : List ℕ) where
-  sent-fits : (side : Side) (m : Message) → sentTo (stepOf c e l) side ≡ Sent.Present m → Fits (limitFor c e) m
+  pub sent-fits : (side : Side) (m : Message) → sentTo (stepOf c e l) side ≡ Sent.Present m → Fits (limitFor c e) m
   sent-fits Side.Calling m h = let p = speaks c e l .calling in rw h at p
   sent-fits Side.Called m h = let p = speaks c e l .called in rw h at p
 
@@ -274,7 +280,7 @@ handed-user : (c : Call) (e : Event) (l : List ℕ) (side : Side) (m : Message) 
 handed-user c e l side m h =
     by-cond (λ (u : List ℕ). (length u ≡ 0) ⊎ UserElement u) (m .element) (goes-user c e l side m h) (λ _. inl refl)
 
-laid-out : (c : Call) (e : Event) (l : List ℕ) (side : Side) (m : Message) → sentTo (stepOf c e l) side ≡ Sent.Present m → (h : Host) → HostInRange h → InRange (wireOf h m) (handedIn (Sent.Present m) l)
+pub laid-out : (c : Call) (e : Event) (l : List ℕ) (side : Side) (m : Message) → sentTo (stepOf c e l) side ≡ Sent.Present m → (h : Host) → HostInRange h → InRange (wireOf h m) (handedIn (Sent.Present m) l)
 laid-out c e l side m s h i =
     let f = sent-fits c e l side m s in
     record {

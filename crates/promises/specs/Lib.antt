@@ -8,6 +8,7 @@ pub mod MoreRights
 pub mod Notes
 pub mod Numbers
 pub mod Refusals
+pub mod Samples
 pub mod Sending
 pub mod Services
 pub mod ShutOut

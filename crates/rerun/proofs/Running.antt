@@ -252,3 +252,7 @@ at-front last c i h k = rw (rest-is c i) at (sym h ∙ k)
 
 pub at-turn : (table : List Call) (e : Entry) (c : List ℕ) (i : ℕ) {t : Turned} → t ≡ turnedAt table e (take (length c - i) (drop i c)) → t ≡ turnedAt table e (drop i c)
 at-turn table e c i h = rw (rest-is c i) at h
+
+-- what the code answers
+pub told : {explained last : Bool} {first : List Call} {c l l' : List ℕ} {r s : Worked} → r ≡ s → WorkedOff explained last first c l l' s → WorkedOff explained last first c l l' r
+told h w = rw h w

@@ -88,6 +88,9 @@ runIn (suc k) explained last room calls t =
 unfoldable pub runOf : Bool → Bool → ℕ → List Call → List ℕ → Ran
 runOf explained last room calls t = runIn (length t) explained last room calls t
 
+abbrev pub soFar : List Call → ℕ → ℕ → Bool → Worked
+soFar calls used wrote ended = record { calls = calls; used = used; wrote = wrote; ended = ended }
+
 -- the answer r, and the buffer l' that is left: what was printed, and after it the octets that stood there
 pub record WorkedOff (explained last : Bool) (table : List Call) (t l l' : List ℕ) (r : Worked) : Type 0 where
   pub calls : r .calls ≡ runOf explained last (length l) table t .calls

@@ -1,6 +1,6 @@
 // A trace, worked off piece by piece: each record at a table of calls, and a line of it.
 ghost use mathlib.Core.Path.{_≡_};
-ghost use Rattle.rerun.specs.Run.{heardOf, frontOf, turnedAt, columnsOf, WorkedOff};
+ghost use Rattle.rerun.specs.Run.{heardOf, frontOf, turnedAt, columnsOf, soFar, WorkedOff};
 use call::Call;
 use component::room::Wrote;
 use exchange::bridge::Turned;
@@ -87,6 +87,18 @@ fn columns_of(e: Entry, o: Outcome) -> Columns
     }
 }
 
+// Where the run stands.
+fn so_far(calls: [Call; 32], used: usize, wrote: usize, ended: bool) -> Worked
+    ensures { λ r. ⌜ r ≡ soFar calls used wrote ended ⌝ }
+{
+    Worked {
+        calls: calls,
+        used: used,
+        wrote: wrote,
+        ended: ended,
+    }
+}
+
 // Works off the records at the front of a piece of trace: as many as are whole and have lines that fit the buffer, up to a
 // fault. The table goes in and comes out by value, once a piece. last: nothing comes after the piece. What was not used is
 // the front of the next piece.
@@ -105,29 +117,14 @@ pub fn work_off(
     while i < piece.len() {
         match front_of(last, &piece[i..]) {
             Front::Waits => {
-                return Worked {
-                    calls: table,
-                    used: i,
-                    wrote: k,
-                    ended: false,
-                };
+                return so_far(table, i, k, false);
             }
             Front::Faulty(f) => match write_fault(out, k, f) {
                 Wrote::Refused(_) => {
-                    return Worked {
-                        calls: table,
-                        used: i,
-                        wrote: k,
-                        ended: false,
-                    };
+                    return so_far(table, i, k, false);
                 }
                 Wrote::To(end) => {
-                    return Worked {
-                        calls: table,
-                        used: i,
-                        wrote: end,
-                        ended: true,
-                    };
+                    return so_far(table, i, end, true);
                 }
             },
             Front::Whole(e) => {
@@ -140,12 +137,7 @@ pub fn work_off(
                 let columns = columns_of(e, outcome);
                 match write_line(out, k, explained, columns) {
                     Wrote::Refused(_) => {
-                        return Worked {
-                            calls: table,
-                            used: i,
-                            wrote: k,
-                            ended: false,
-                        };
+                        return so_far(table, i, k, false);
                     }
                     Wrote::To(end) => {
                         table = after;
@@ -156,10 +148,5 @@ pub fn work_off(
             }
         }
     }
-    Worked {
-        calls: table,
-        used: i,
-        wrote: k,
-        ended: false,
-    }
+    so_far(table, i, k, false)
 }

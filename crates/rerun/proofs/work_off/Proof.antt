@@ -2,7 +2,7 @@
 use Prim.Native.Nat.{_-_}
 use native.Mathlib.Omega.{arith}
 use lib.ListN.{length}
-use Rattle.rerun.proofs.Running.{Goes, start, front-empty, whole-fits, whole-least, at-front, at-turn, stop-waits, fault-full, fault-put, stop-full, go-on}
+use Rattle.rerun.proofs.Running.{Goes, start, front-empty, whole-fits, whole-least, at-front, at-turn, stop-waits, fault-full, fault-put, stop-full, go-on, told}
 use borrow.Author.Needs.{needs}
 use Rattle.rerun.proofs.work_off.Statement.{statement}
 use Rattle.rerun.proofs.work_off.Tie as tie
@@ -12,6 +12,7 @@ use Rattle.report.proofs.write_fault.Reads as write-fault-reads
 use Rattle.report.proofs.write_line.Reads as write-line-reads
 use Rattle.rerun.proofs.columns_of.Reads as columns-of-reads
 use Rattle.rerun.proofs.front_of.Reads as front-of-reads
+use Rattle.rerun.proofs.so_far.Reads as so-far-reads
 use Rattle.rerun.proofs.turn.Reads as turn-reads
 use Rattle.trace.proofs.kind.size.Reads as size-reads
 
@@ -39,11 +40,14 @@ front-of-requires c κs = search needs
 enum-told : tie.Need-enum-told Inv-loop μ-loop
 enum-told c = search needs
 
+so-far-requires : tie.Need-so-far-requires Inv-loop μ-loop
+so-far-requires c κs = search needs
+
 same-length : tie.Need-same-length Inv-loop μ-loop
-same-length c = omega (arith, c .before .before .before .before .before .loop .inv .going .long)
+same-length c = omega (arith, c .before .before .before .before .before .before .loop .inv .going .long)
 
 returns : tie.Need-returns Inv-loop μ-loop
-returns c = stop-waits _ _ _ _ _ _ _ _ _ (c .before .before .before .before .before .loop .inv) (at-front _ (c .before .before .before .before .before .before .before .before .args .piece .now) (c .before .before .before .before .before .loop .i) (c .before .before .front-of .ensures) (c .enum-told .given .1))
+returns c = told (c .so-far .ensures) (stop-waits _ _ _ _ _ _ _ _ _ (c .before .before .before .before .before .before .loop .inv) (at-front _ (c .before .before .before .before .before .before .before .before .before .args .piece .now) (c .before .before .before .before .before .before .loop .i) (c .before .before .before .front-of .ensures) (c .before .enum-told .given .1)))
 
 enum-known-f : tie.Need-enum-known-f Inv-loop μ-loop
 enum-known-f c = search needs
@@ -54,20 +58,26 @@ write-fault-requires c κs = search needs
 enum-told-2 : tie.Need-enum-told-2 Inv-loop μ-loop
 enum-told-2 c = search needs
 
+so-far-requires-2 : tie.Need-so-far-requires-2 Inv-loop μ-loop
+so-far-requires-2 c κs = search needs
+
 same-length-2 : tie.Need-same-length-2 Inv-loop μ-loop
-same-length-2 c = omega (arith, c .before .before .before .before .before .before .before .before .before .before .before .before .loop .inv .going .long)
+same-length-2 c = omega (arith, c .before .before .before .before .before .before .before .before .before .before .before .before .before .loop .inv .going .long)
 
 returns-2 : tie.Need-returns-2 Inv-loop μ-loop
-returns-2 c = fault-full _ _ _ _ _ _ _ _ _ (c .before .before .before .before .before .before .before .before .before .before .before .before .loop .inv) (c .before .before .before .before .before .before .before .before .before .before .before .loop-test .taken) (at-front _ (c .before .before .before .before .before .before .before .before .before .before .before .before .before .before .before .args .piece .now) (c .before .before .before .before .before .before .before .before .before .before .before .before .loop .i) (c .before .before .before .before .before .before .before .before .before .front-of .ensures) (c .before .before .before .before .before .before .before .f .given .1)) (rw (c .enum-told2 .given .1) at (c .before .before .before .before .write-fault .ensures))
+returns-2 c = told (c .so-far2 .ensures) (fault-full _ _ _ _ _ _ _ _ _ (c .before .before .before .before .before .before .before .before .before .before .before .before .before .loop .inv) (c .before .before .before .before .before .before .before .before .before .before .before .before .loop-test .taken) (at-front _ (c .before .before .before .before .before .before .before .before .before .before .before .before .before .before .before .before .args .piece .now) (c .before .before .before .before .before .before .before .before .before .before .before .before .before .loop .i) (c .before .before .before .before .before .before .before .before .before .before .front-of .ensures) (c .before .before .before .before .before .before .before .before .f .given .1)) (rw (c .before .enum-told2 .given .1) at (c .before .before .before .before .before .write-fault .ensures)))
 
 enum-known-end : tie.Need-enum-known-end Inv-loop μ-loop
 enum-known-end c = search needs
 
+so-far-requires-3 : tie.Need-so-far-requires-3 Inv-loop μ-loop
+so-far-requires-3 c κs = search needs
+
 same-length-3 : tie.Need-same-length-3 Inv-loop μ-loop
-same-length-3 c = omega (arith, c .before .before .before .before .before .before .before .before .before .before .before .before .before .loop .inv .going .long)
+same-length-3 c = omega (arith, c .before .before .before .before .before .before .before .before .before .before .before .before .before .before .loop .inv .going .long)
 
 returns-3 : tie.Need-returns-3 Inv-loop μ-loop
-returns-3 c = fault-put _ _ _ _ _ _ _ _ _ (c .before .before .before .before .before .before .before .before .before .before .before .before .before .loop .inv) (c .before .before .before .before .before .before .before .before .before .before .before .before .loop-test .taken) (at-front _ (c .before .before .before .before .before .before .before .before .before .before .before .before .before .before .before .before .args .piece .now) (c .before .before .before .before .before .before .before .before .before .before .before .before .before .loop .i) (c .before .before .before .before .before .before .before .before .before .before .front-of .ensures) (c .before .before .before .before .before .before .before .before .f .given .1)) (rw (c .before .end .given .1) at (c .before .before .before .before .before .write-fault .ensures))
+returns-3 c = told (c .so-far3 .ensures) (fault-put _ _ _ _ _ _ _ _ _ (c .before .before .before .before .before .before .before .before .before .before .before .before .before .before .loop .inv) (c .before .before .before .before .before .before .before .before .before .before .before .before .before .loop-test .taken) (at-front _ (c .before .before .before .before .before .before .before .before .before .before .before .before .before .before .before .before .before .args .piece .now) (c .before .before .before .before .before .before .before .before .before .before .before .before .before .before .loop .i) (c .before .before .before .before .before .before .before .before .before .before .before .front-of .ensures) (c .before .before .before .before .before .before .before .before .before .f .given .1)) (rw (c .before .before .end .given .1) at (c .before .before .before .before .before .before .write-fault .ensures)))
 
 enum-known-e : tie.Need-enum-known-e Inv-loop μ-loop
 enum-known-e c = search needs
@@ -99,11 +109,14 @@ write-line-requires c κs = search needs
 enum-told-3 : tie.Need-enum-told-3 Inv-loop μ-loop
 enum-told-3 c = search needs
 
+so-far-requires-4 : tie.Need-so-far-requires-4 Inv-loop μ-loop
+so-far-requires-4 c κs = search needs
+
 same-length-4 : tie.Need-same-length-4 Inv-loop μ-loop
-same-length-4 c = omega (arith, c .before .before .before .before .before .before .before .before .before .before .before .before .before .before .before .before .before .before .loop .inv .going .long)
+same-length-4 c = omega (arith, c .before .before .before .before .before .before .before .before .before .before .before .before .before .before .before .before .before .before .before .loop .inv .going .long)
 
 returns-4 : tie.Need-returns-4 Inv-loop μ-loop
-returns-4 c = stop-full _ _ _ _ _ _ _ _ _ _ (at-front _ (c .before .before .before .before .before .before .before .before .before .before .before .before .before .before .before .before .before .before .before .before .before .args .piece .now) (c .before .before .before .before .before .before .before .before .before .before .before .before .before .before .before .before .before .before .loop .i) (c .before .before .before .before .before .before .before .before .before .before .before .before .before .before .before .front-of .ensures) (c .before .before .before .before .before .before .before .before .before .before .before .before .before .e .given .1)) (c .before .before .before .before .before .before .before .before .before .before .before .before .before .before .before .before .before .before .loop .inv) _ (at-turn _ _ (c .before .before .before .before .before .before .before .before .before .before .before .before .before .before .before .before .before .before .before .before .before .args .piece .now) (c .before .before .before .before .before .before .before .before .before .before .before .before .before .before .before .before .before .before .loop .i) (c .before .before .before .before .before .before .before .before .before .turn .ensures)) _ (c .before .before .before .before .before .before .columns-of .ensures) (rw (c .enum-told3 .given .1) at (c .before .before .before .before .write-line .ensures))
+returns-4 c = told (c .so-far4 .ensures) (stop-full _ _ _ _ _ _ _ _ _ _ (at-front _ (c .before .before .before .before .before .before .before .before .before .before .before .before .before .before .before .before .before .before .before .before .before .before .args .piece .now) (c .before .before .before .before .before .before .before .before .before .before .before .before .before .before .before .before .before .before .before .loop .i) (c .before .before .before .before .before .before .before .before .before .before .before .before .before .before .before .before .front-of .ensures) (c .before .before .before .before .before .before .before .before .before .before .before .before .before .before .e .given .1)) (c .before .before .before .before .before .before .before .before .before .before .before .before .before .before .before .before .before .before .before .loop .inv) _ (at-turn _ _ (c .before .before .before .before .before .before .before .before .before .before .before .before .before .before .before .before .before .before .before .before .before .before .args .piece .now) (c .before .before .before .before .before .before .before .before .before .before .before .before .before .before .before .before .before .before .before .loop .i) (c .before .before .before .before .before .before .before .before .before .before .turn .ensures)) _ (c .before .before .before .before .before .before .before .columns-of .ensures) (rw (c .before .enum-told3 .given .1) at (c .before .before .before .before .before .write-line .ensures)))
 
 enum-known-end-2 : tie.Need-enum-known-end-2 Inv-loop μ-loop
 enum-known-end-2 c = search needs
@@ -117,11 +130,14 @@ loop-less c =
 loop-again : tie.Need-loop-again Inv-loop μ-loop
 loop-again c = go-on _ _ _ _ _ _ _ _ _ _ (at-front _ (c .before .before .before .before .before .before .before .before .before .before .before .before .before .before .before .before .before .before .before .before .before .before .args .piece .now) (c .before .before .before .before .before .before .before .before .before .before .before .before .before .before .before .before .before .before .before .loop .i) (c .before .before .before .before .before .before .before .before .before .before .before .before .before .before .before .before .front-of .ensures) (c .before .before .before .before .before .before .before .before .before .before .before .before .before .before .e .given .1)) (c .before .before .before .before .before .before .before .before .before .before .before .before .before .before .before .before .before .before .before .loop .inv) _ (at-turn _ _ (c .before .before .before .before .before .before .before .before .before .before .before .before .before .before .before .before .before .before .before .before .before .before .args .piece .now) (c .before .before .before .before .before .before .before .before .before .before .before .before .before .before .before .before .before .before .before .loop .i) (c .before .before .before .before .before .before .before .before .before .before .turn .ensures)) _ (c .before .before .before .before .before .before .before .columns-of .ensures) (c .before .before .before .before .before .before .before .before .before .before .before .before .size .ensures) (rw (c .before .end2 .given .1) at (c .before .before .before .before .before .write-line .ensures))
 
+so-far-requires-5 : tie.Need-so-far-requires-5 Inv-loop μ-loop
+so-far-requires-5 c κs = search needs
+
 same-length-5 : tie.Need-same-length-5 Inv-loop μ-loop
-same-length-5 c = omega (arith, c .before .loop .inv .going .long)
+same-length-5 c = omega (arith, c .before .before .loop .inv .going .long)
 
 returns-5 : tie.Need-returns-5 Inv-loop μ-loop
-returns-5 c = stop-waits _ _ _ _ _ _ _ _ _ (c .before .loop .inv) (front-empty _ _ _ (c .loop-test .left))
+returns-5 c = told (c .so-far5 .ensures) (stop-waits _ _ _ _ _ _ _ _ _ (c .before .before .loop .inv) (front-empty _ _ _ (c .before .loop-test .left)))
 
 pub work-off-spec : {M : Type 1} → statement M
 work-off-spec =
@@ -135,14 +151,17 @@ work-off-spec =
     part-front-of-end
     front-of-requires
     enum-told
+    so-far-requires
     same-length
     returns
     enum-known-f
     write-fault-requires
     enum-told-2
+    so-far-requires-2
     same-length-2
     returns-2
     enum-known-end
+    so-far-requires-3
     same-length-3
     returns-3
     enum-known-e
@@ -155,10 +174,12 @@ work-off-spec =
     columns-of-requires
     write-line-requires
     enum-told-3
+    so-far-requires-4
     same-length-4
     returns-4
     enum-known-end-2
     loop-less
     loop-again
+    so-far-requires-5
     same-length-5
     returns-5)
