@@ -8,7 +8,3 @@ pub mod Searched
 pub mod Within
 pub mod Counted
 pub mod Promises
-pub mod AloneKept
-pub mod AloneTable
-pub mod Alone
-pub mod AloneMet

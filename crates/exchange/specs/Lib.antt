@@ -4,4 +4,3 @@ pub mod Settle
 pub mod Step
 pub mod Table
 pub mod Promises
-pub mod Alone

@@ -15,18 +15,18 @@ use Rattle.rules.specs.Phase.{liveOf}
 use Rattle.call.specs.declared.Call.{Call}
 use Rattle.call.specs.declared.Event.{Event}
 use Rattle.call.specs.Sound.{freshCall}
 use Rattle.exchange.specs.declared.choice.Choice.{Choice}
 use Rattle.exchange.specs.declared.choice.Verdict.{Verdict}
 use Rattle.exchange.specs.declared.table.Found.{Found}
 use Rattle.exchange.specs.Table.{liveAs, findFrom, placeFrom, isAt, heldIn, tableSound}
 use Rattle.exchange.specs.Choice.{referenceOf, opensOf, rangedOf, newPlaceOf, oldPlaceOf, chooseOf, chosenOf}
 use Rattle.exchange.specs.Settle.{settledOf}
 use Rattle.exchange.specs.Step.{tableAt, stepTable}
 use Rattle.exchange.specs.Promises.{LiveAt, FieldsIn, Faulty, over, twins, unsound, heldCall}
-use Rattle.exchange.specs.Alone.{AllFresh}
+use Rattle.alone.specs.Alone.{AllFresh}
 use Rattle.exchange.proofs.Searched.{at-held}
 use Rattle.exchange.proofs.Counted.{both, and-true, clash, not-free, is-live, found-live, found-lowest, not-found, not-faulty, is-faulty}
-use Rattle.exchange.proofs.AloneKept.{follows-in, settled-in, opens-in}
+use Rattle.alone.proofs.AloneKept.{follows-in, settled-in, opens-in}
 
 not-so : (b : Bool) → (b ≡ true → ⊥) → b ≡ false
 not-so true h = absurd (h refl)

@@ -12,18 +12,18 @@ use Rattle.call.specs.declared.Call.{Call}
 use Rattle.call.specs.declared.Event.{Event}
 use Rattle.call.specs.Sound.{freshCall}
 use Rattle.call.specs.Step.{stepOf}
 use Rattle.exchange.specs.declared.choice.Choice.{Choice}
 use Rattle.exchange.specs.declared.choice.Verdict.{Verdict}
 use Rattle.exchange.specs.declared.settle.Outcome.{Outcome}
 use Rattle.exchange.specs.Table.{liveAs, tableSound}
 use Rattle.exchange.specs.Choice.{verdictNumber, referenceOf, opensOf, rangedOf, chosenOf}
 use Rattle.exchange.specs.Settle.{subjectOf, outcomeOf, refusalOf, settledOf}
 use Rattle.exchange.specs.Step.{outcomeAt, tableAt, stepOutcome, stepTable}
 use Rattle.exchange.specs.Promises.{heldCall}
-use Rattle.exchange.specs.Alone.{Offered, Told, runOf, ownOf, eventsOf, fullOf, outcomesOf, Alone}
+use Rattle.alone.specs.Alone.{Offered, Told, runOf, ownOf, eventsOf, fullOf, outcomesOf, Alone}
 use Rattle.exchange.proofs.Counted.{clash, found-call}
-use Rattle.exchange.proofs.AloneKept.{opens-in}
-use Rattle.exchange.proofs.AloneTable.{Chosen, out, held, full, new, none, old, chosen, keeps, held-if-found, placed-own, placed-new, placed-old, step-sound, step-other, fresh-nobody, fresh-sound}
+use Rattle.alone.proofs.AloneKept.{opens-in}
+use Rattle.alone.proofs.AloneTable.{Chosen, out, held, full, new, none, old, chosen, keeps, held-if-found, placed-own, placed-new, placed-old, step-sound, step-other, fresh-nobody, fresh-sound}
 
 -- ---- the lone run: c is the record of the reference, a fresh one where there is no live call
 abbrev lone-choice : (opens ranged live met : Bool) → Choice

@@ -19,11 +19,11 @@ use Rattle.call.specs.Answering.{answeredCallOf, goesOnOf, clearsOf, alertingFa
 use Rattle.call.specs.Information.{metersOf, informationPassageOf, carriedOf, withElementOf, informationOf}
 use Rattle.call.specs.Disconnect.{endsOf, releaseCompleteOf}
 use Rattle.call.specs.Tick.{refillsOf, runsOf, passesTickOf, tickOf}
 use Rattle.exchange.specs.Table.{tableSound}
 use Rattle.exchange.specs.Choice.{chooseOf, chosenOf}
 use Rattle.exchange.specs.Settle.{subjectOf, keptOf, outcomeOf, refusalOf, settledOf}
 use Rattle.exchange.specs.Step.{stepOutcome, stepTable}
-use Rattle.exchange.specs.Alone.{AllFresh, Met, Needed}
+use Rattle.alone.specs.Alone.{AllFresh, Met, Needed}
 
 no-places : AllFresh []
 no-places = record { most = omega arith; fresh = λ i h. absurd (not-suc-le-zero h) }

@@ -1,0 +1,4 @@
+pub mod AloneKept
+pub mod AloneTable
+pub mod Alone
+pub mod AloneMet
