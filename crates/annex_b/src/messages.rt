@@ -5,12 +5,12 @@ use crate::show::writes_message;
 use crate::show::writes_nowhere;
 use component::cause::Cause;
 use component::facility::Component;
-use message::fields::Facilities;
-use message::fields::Header;
-use message::fields::Message;
-use message::fields::Single;
-use message::fields::Width;
-use message::kind::Kind;
+use fields::Facilities;
+use fields::Header;
+use fields::Message;
+use fields::Single;
+use fields::Width;
+use fields::kind::Kind;
 
 // Requests in SETUP.
 pub fn calls() {

@@ -1,14 +1,14 @@
 // A case's line: its name, what was found, and whether that is what the standard gives.
 use component::facility::Component;
 use component::facility::write_facility;
-use component::room::Bar;
-use component::room::Wrote;
-use component::room::end_of;
-use component::room::write_octets;
+use room::Bar;
+use room::Wrote;
+use room::end_of;
+use room::write_octets;
 use libc::STDOUT_FILENO;
 use line::write_line;
-use message::fields::Message;
-use message::fields::Place;
+use fields::Message;
+use fields::Place;
 use message::reader::Read;
 use message::reader::part;
 use message::reader::read_message;

@@ -14,15 +14,15 @@ use Rattle.component.specs.declared.facility.Component.{Component}
 use Rattle.component.specs.declared.facility.Facility.{Facility}
 use Rattle.component.specs.Cause.{causeOf}
 use Rattle.component.specs.Facility.{Slot, serviceOf, wishOf, refusalOf, invokeSays, errorSays, readAs, invokeForm, resultForm, errorForm, invokeOf, resultOf, errorOf, or, facilityOf, spells, invokeNumber}
-use Rattle.message.specs.declared.kind.Typed.{Typed}
-use Rattle.message.specs.declared.fields.Width.{Width}
-use Rattle.message.specs.declared.fields.Single.{Single}
-use Rattle.message.specs.declared.fields.Facilities.{Facilities}
-use Rattle.message.specs.declared.fields.Header.{Header}
-use Rattle.message.specs.declared.fields.Place.{Place}
+use Rattle.fields.specs.declared.kind.Typed.{Typed}
+use Rattle.fields.specs.declared.Width.{Width}
+use Rattle.fields.specs.declared.Single.{Single}
+use Rattle.fields.specs.declared.Facilities.{Facilities}
+use Rattle.fields.specs.declared.Header.{Header}
+use Rattle.fields.specs.declared.Place.{Place}
 use Rattle.message.specs.declared.reader.Reading.{Reading}
 use Rattle.message.specs.declared.reader.Read.{Read}
-use Rattle.message.specs.Kind.{kindOf}
+use Rattle.fields.specs.Kind.{kindOf}
 use Rattle.message.specs.Elements.{Element, Split, cut, whole, elements, counted}
 use Rattle.message.specs.Reading.{firstCause, andSays, components, firstThree, readingOf, takenOf, widthOf, referenceOf, typedOf, headedOf, readOf, placeIn}
 use Rattle.octets.specs.Promises.{CauseIn, FacilitiesIn}

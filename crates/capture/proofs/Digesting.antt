@@ -7,10 +7,10 @@ use native.Mathlib.Omega.{arith}
 use borrow.Author.Tests.{le-leb, lt-leb}
 use lib.ListN.{length, getD, take, drop, length-append, length-drop}
 use lib.Seq.{length-take-le, drop-drop, getD-drop}
-use Rattle.component.specs.declared.room.Bar.{Bar}
-use Rattle.component.specs.declared.room.Wrote.{Wrote}
-use Rattle.component.specs.Room.{placed, Written}
-use Rattle.component.proofs.Pieces.{length-placed, placed-then}
+use Rattle.room.specs.declared.Bar.{Bar}
+use Rattle.room.specs.declared.Wrote.{Wrote}
+use Rattle.room.specs.Room.{placed, Written}
+use Rattle.room.proofs.Pieces.{length-placed, placed-then}
 use Rattle.text.proofs.Pieced.{took, refused, no-piece}
 use Rattle.line.specs.Line.{lineOf}
 use Rattle.capture.specs.Frames.{Frame, laterOf, sizeOf, framesOf, lineAt, linesOf, fitting, spanOf, workedOff, Digested}

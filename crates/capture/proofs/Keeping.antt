@@ -8,7 +8,7 @@ use native.Mathlib.Numerals.{add-one}
 use borrow.Author.Tests.{le-leb, lt-leb}
 use lib.ListN.{length, getD, take, drop, set, length-set, length-drop}
 use lib.Seq.{paste, paste-zero, paste-suc, drop-paste, getD-drop, length-take-le}
-use Rattle.component.specs.Room.{placed}
+use Rattle.room.specs.Room.{placed}
 use Rattle.text.proofs.Pieced.{no-piece}
 use Rattle.capture.specs.Frames.{keptOf, Kept}
 

@@ -5,7 +5,7 @@ use mathlib.Core.Bool.{cond}
 use mathlib.Core.Path.{_≡_}
 use lib.ListN.{length, getD, take, drop}
 use lib.Dec.{leb, eqb}
-use Rattle.component.specs.Room.{placed}
+use Rattle.room.specs.Room.{placed}
 use Rattle.capture.specs.declared.frames.Done.{Done}
 use Rattle.line.specs.Line.{lineOf}
 

@@ -3,10 +3,10 @@ ghost use mathlib.Core.Path.{_≡_};
 ghost use mathlib.Core.Bool.{true};
 ghost use Prim.Native.Nat.{_+_, _*_};
 ghost use lib.ListN.{length};
-ghost use Rattle.component.specs.Room.{Written};
+ghost use Rattle.room.specs.Room.{Written};
 ghost use Rattle.capture.specs.Frames.{laterOf, firstLine, lastLine, keptOf, Digested, Kept};
-use component::room::Wrote;
-use component::room::write_octets;
+use room::Wrote;
+use room::write_octets;
 use line::write_line;
 
 // How many octets of a piece of capture were used, and how many octets of lines were written.

@@ -1,4 +1,2 @@
-pub mod Outcome
 pub mod Forms
 pub mod Back
-pub mod Pieces

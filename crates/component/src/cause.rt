@@ -1,10 +1,10 @@
 // The Cause element: 08, its length, and a body with a location octet, perhaps an extension of it, and the value.
 ghost use mathlib.Core.Path.{_≡_};
-ghost use Rattle.component.specs.Room.{Written};
+ghost use Rattle.room.specs.Room.{Written};
 ghost use Rattle.component.specs.Cause.{causeOf, causeFits, causeOctets};
-use crate::room::Bar;
-use crate::room::Wrote;
-use crate::room::write_octets;
+use room::Bar;
+use room::Wrote;
+use room::write_octets;
 
 pub enum Cause {
     Absent,

@@ -1,10 +1,10 @@
 // The Facility element: 1C, its length, and a body that is one component.
 ghost use mathlib.Core.Path.{_≡_};
-ghost use Rattle.component.specs.Room.{Written};
+ghost use Rattle.room.specs.Room.{Written};
 ghost use Rattle.component.specs.Facility.{serviceOf, wishOf, refusalOf, invokeSays, errorSays, invokeOf, resultOf, errorOf, facilityOf, serviceOctet, wishOctet, refusalOctet, componentFits, facilityOctets};
-use crate::room::Bar;
-use crate::room::Wrote;
-use crate::room::write_octets;
+use room::Bar;
+use room::Wrote;
+use room::write_octets;
 
 pub enum Service {
     One,

@@ -6,7 +6,7 @@ use capture::frames::keep;
 use capture::frames::later;
 use capture::frames::write_first;
 use capture::frames::write_last;
-use component::room::end_of;
+use room::end_of;
 use libc::STDIN_FILENO;
 use libc::STDOUT_FILENO;
 

@@ -4,12 +4,12 @@ use mathlib.Core.List.{List}
 use mathlib.Core.Path.{_≡_, refl, sym, ap, _∙_}
 use borrow.Author.Tests.{lt-ltb, le-ltb}
 use lib.ListN.{length, getD, drop}
-use Rattle.message.specs.declared.kind.Kind.{Kind}
-use Rattle.message.specs.declared.kind.Typed.{Typed}
-use Rattle.message.specs.declared.fields.Width.{Width}
+use Rattle.fields.specs.declared.kind.Kind.{Kind}
+use Rattle.fields.specs.declared.kind.Typed.{Typed}
+use Rattle.fields.specs.declared.Width.{Width}
 use Rattle.message.specs.declared.reader.Fault.{Fault}
 use Rattle.message.specs.declared.reader.Read.{Read}
-use Rattle.message.specs.Kind.{kindOf}
+use Rattle.fields.specs.Kind.{kindOf}
 use Rattle.message.specs.Elements.{elements}
 use Rattle.message.specs.Reading.{widthOf, headerOf, takenOf, typedOf, headedOf}
 

@@ -9,15 +9,17 @@ use Rattle.component.specs.declared.facility.Component.{Component}
 use Rattle.component.specs.declared.facility.Facility.{Facility}
 use Rattle.component.specs.Cause.{causeOf}
 use Rattle.component.specs.Facility.{facilityOf}
-use Rattle.message.specs.declared.fields.Single.{Single}
-use Rattle.message.specs.declared.fields.Facilities.{Facilities}
-use Rattle.message.specs.declared.fields.Header.{Header}
-use Rattle.message.specs.declared.fields.Place.{Place}
-use Rattle.message.specs.declared.reader.Seen.{Seen}
-use Rattle.message.specs.declared.reader.Found.{Found}
+use Rattle.fields.specs.declared.Single.{Single}
+use Rattle.fields.specs.declared.Facilities.{Facilities}
+use Rattle.fields.specs.declared.Header.{Header}
+use Rattle.fields.specs.declared.Place.{Place}
+use Rattle.fields.specs.declared.found.Seen.{Seen}
+use Rattle.fields.specs.declared.found.Found.{Found}
 use Rattle.message.specs.Elements.{Element}
-use Rattle.message.specs.Reading.{singleOf, orSingle, firstSingle, firstCause, firstPlace, andSays, components, firstThree}
-use Rattle.message.specs.Scan.{noteCause, oneMore, noteFacility, notePlace, causeThen, listed, placeThen, readingFrom, Adds}
+use Rattle.fields.specs.Found.{singleOf, orSingle}
+use Rattle.message.specs.Reading.{firstSingle, firstCause, firstPlace, andSays, components, firstThree}
+use Rattle.fields.specs.Found.{noteCause, oneMore, noteFacility, notePlace}
+use Rattle.message.specs.Scan.{causeThen, listed, placeThen, readingFrom, Adds}
 
 cause-law : (s : Seen) (b : List ℕ) (c : Cause) → causeThen (noteCause s b) c ≡ causeThen s (causeOf b)
 cause-law Seen.Unseen b c = refl

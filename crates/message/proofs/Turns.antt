@@ -8,18 +8,20 @@ use native.Mathlib.Omega.{arith}
 use borrow.Author.Tests.{le-leb, lt-leb}
 use lib.ListN.{length, getD, drop}
 use Rattle.component.specs.declared.cause.Cause.{Cause}
-use Rattle.message.specs.declared.fields.Single.{Single}
-use Rattle.message.specs.declared.fields.Facilities.{Facilities}
-use Rattle.message.specs.declared.fields.Header.{Header}
-use Rattle.message.specs.declared.fields.Place.{Place}
-use Rattle.message.specs.declared.reader.Seen.{Seen}
-use Rattle.message.specs.declared.reader.Found.{Found}
+use Rattle.fields.specs.declared.Single.{Single}
+use Rattle.fields.specs.declared.Facilities.{Facilities}
+use Rattle.fields.specs.declared.Header.{Header}
+use Rattle.fields.specs.declared.Place.{Place}
+use Rattle.fields.specs.declared.found.Seen.{Seen}
+use Rattle.fields.specs.declared.found.Found.{Found}
 use Rattle.message.specs.declared.reader.Fault.{Fault}
 use Rattle.message.specs.declared.reader.Read.{Read}
 use Rattle.message.specs.declared.reader.End.{End}
 use Rattle.message.specs.Elements.{Element, Split, cut, whole, then, elements, counted, between, Ended, Ends}
-use Rattle.message.specs.Reading.{orSingle, firstSingle, firstCause, firstPlace, components, firstThree, readingOf, takenOf}
-use Rattle.message.specs.Scan.{causeSeen, causeThen, listed, placeThen, readingFrom, Adds, takenWith}
+use Rattle.fields.specs.Found.{orSingle}
+use Rattle.message.specs.Reading.{firstSingle, firstCause, firstPlace, components, firstThree, readingOf, takenOf}
+use Rattle.fields.specs.Found.{causeSeen}
+use Rattle.message.specs.Scan.{causeThen, listed, placeThen, readingFrom, Adds, takenWith}
 use Rattle.message.proofs.Splitting.{none-left}
 
 -- what the end of an element says, by its answer

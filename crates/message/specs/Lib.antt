@@ -1,4 +1,3 @@
-pub mod Kind
 pub mod Elements
 pub mod Reading
 pub mod Scan

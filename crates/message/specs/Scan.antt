@@ -1,47 +1,19 @@
 -- What the scan carries along. Nobody has to believe this: the reader's contract does not cite it.
-use Prim.Native.Nat.{ℕ}
 use mathlib.Core.List.{List, [], _∷_, _++_}
 use mathlib.Core.Path.{_≡_}
 use Rattle.component.specs.declared.cause.Cause.{Cause}
 use Rattle.component.specs.declared.facility.Component.{Component}
-use Rattle.component.specs.declared.facility.Facility.{Facility}
-use Rattle.component.specs.Cause.{causeOf}
-use Rattle.message.specs.declared.fields.Single.{Single}
-use Rattle.message.specs.declared.fields.Facilities.{Facilities}
-use Rattle.message.specs.declared.fields.Header.{Header}
-use Rattle.message.specs.declared.fields.Place.{Place}
+use Rattle.fields.specs.declared.Single.{Single}
+use Rattle.fields.specs.declared.Facilities.{Facilities}
+use Rattle.fields.specs.declared.Header.{Header}
+use Rattle.fields.specs.declared.Place.{Place}
 use Rattle.message.specs.declared.reader.Reading.{Reading}
 use Rattle.message.specs.declared.reader.Read.{Read}
-use Rattle.message.specs.declared.reader.Seen.{Seen}
-use Rattle.message.specs.declared.reader.Found.{Found}
+use Rattle.fields.specs.declared.found.Seen.{Seen}
+use Rattle.fields.specs.declared.found.Found.{Found}
 use Rattle.message.specs.Elements.{Element}
-use Rattle.message.specs.Reading.{orSingle, firstSingle, firstCause, firstPlace, components, firstThree}
-
--- what was found before, and then something new
-abbrev pub noteCause : Seen → List ℕ → Seen
-noteCause Seen.Unseen b = Seen.First (causeOf b)
-noteCause (Seen.First c) b = Seen.First c
-
-abbrev pub oneMore : Facilities → Component → Facilities
-oneMore Facilities.Zero n = Facilities.One n
-oneMore (Facilities.One a) n = Facilities.Two a n
-oneMore (Facilities.Two a b) n = Facilities.Three a b n
-oneMore (Facilities.Three a b c) n = Facilities.Three a b c
-
-abbrev pub noteFacility : Facilities → Facility → Facilities
-noteFacility f Facility.Absent = f
-noteFacility f (Facility.Says n) = oneMore f n
-
-abbrev pub notePlace : Place → ℕ → ℕ → Place
-notePlace Place.Absent i n = Place.At i n
-notePlace (Place.At j k) i n = Place.At j k
-
-abbrev pub noteSingle : Single → Single → Single
-noteSingle s t = orSingle s t
-
-abbrev pub causeSeen : Seen → Cause
-causeSeen Seen.Unseen = Cause.Absent
-causeSeen (Seen.First c) = c
+use Rattle.fields.specs.Found.{orSingle, causeSeen}
+use Rattle.message.specs.Reading.{firstSingle, firstCause, firstPlace, components, firstThree}
 
 -- what was found before, and then the elements that are left
 abbrev pub causeThen : Seen → Cause → Cause

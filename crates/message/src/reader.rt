@@ -3,21 +3,25 @@ ghost use mathlib.Core.Path.{_≡_};
 ghost use Prim.Native.Nat.{_<_, _≤_, _+_};
 ghost use lib.ListN.{length, getD, drop};
 ghost use Rattle.message.specs.Elements.{Ends, between, elements};
-ghost use Rattle.message.specs.Reading.{widthOf, referenceOf, singleOf, moreIn, levelIn, takenOf, headedOf, readOf, partOf, userUserOf};
-ghost use Rattle.message.specs.Scan.{noteCause, noteFacility, notePlace, noteSingle, Adds, causeSeen, takenWith};
-use crate::fields::Facilities;
-use crate::fields::Header;
-use crate::fields::Message;
-use crate::fields::Place;
-use crate::fields::Single;
-use crate::fields::Width;
-use crate::kind::Kind;
-use crate::kind::Typed;
-use crate::kind::kind_in;
-use component::cause::Cause;
-use component::cause::cause_in;
-use component::facility::Facility;
+ghost use Rattle.message.specs.Reading.{widthOf, referenceOf, takenOf, headedOf, readOf, partOf, userUserOf};
+ghost use Rattle.message.specs.Scan.{Adds, takenWith};
 use component::facility::facility_in;
+use fields::Facilities;
+use fields::Header;
+use fields::Message;
+use fields::Place;
+use fields::Single;
+use fields::Width;
+use fields::found::Found;
+use fields::found::Seen;
+use fields::found::cause_seen;
+use fields::found::first_cause;
+use fields::found::first_place;
+use fields::found::first_single;
+use fields::found::single_in;
+use fields::found::with_facility;
+use fields::kind::Typed;
+use fields::kind::kind_in;
 
 pub struct Reading {
     pub message: Message,
@@ -43,20 +47,6 @@ pub enum Read {
 enum End {
     To(usize),
     Cut,
-}
-
-// Whether a Cause element was met, and what the first one says.
-pub enum Seen {
-    Unseen,
-    First(Cause),
-}
-
-// What the scan has found so far.
-pub struct Found {
-    pub single: Single,
-    pub cause: Seen,
-    pub facility: Facilities,
-    pub user: Place,
 }
 
 fn wide(x: u8) -> usize
@@ -86,95 +76,6 @@ fn end_of(m: &[u8], i: usize) -> End
         return End::Cut;
     }
     End::To(i + 2 + n)
-}
-
-fn first_cause(c: Seen, body: &[u8]) -> Seen
-    ensures { λ r. ⌜ r ≡ noteCause c (now (body .entry)) ⌝ }
-{
-    match c {
-        Seen::Unseen => Seen::First(cause_in(body)),
-        Seen::First(v) => Seen::First(v),
-    }
-}
-
-fn with_facility(f: Facilities, new: Facility) -> Facilities
-    ensures { λ r. ⌜ r ≡ noteFacility f new ⌝ }
-{
-    match new {
-        Facility::Absent => f,
-        Facility::Says(n) => match f {
-            Facilities::Zero => Facilities::One(n),
-            Facilities::One(a) => Facilities::Two(a, n),
-            Facilities::Two(a, b) => Facilities::Three(a, b, n),
-            Facilities::Three(a, b, c) => Facilities::Three(a, b, c),
-        },
-    }
-}
-
-fn first_place(p: Place, i: usize, n: usize) -> Place
-    ensures { λ r. ⌜ r ≡ notePlace p i n ⌝ }
-{
-    match p {
-        Place::Absent => Place::At(i, n),
-        Place::At(j, k) => Place::At(j, k),
-    }
-}
-
-// More data belongs to USER INFORMATION only.
-fn more_in(k: Kind) -> Single
-    ensures { λ r. ⌜ r ≡ moreIn k ⌝ }
-{
-    match k {
-        Kind::Alerting => Single::Absent,
-        Kind::CallProceeding => Single::Absent,
-        Kind::Setup => Single::Absent,
-        Kind::Connect => Single::Absent,
-        Kind::UserInformation => Single::MoreData,
-        Kind::Disconnect => Single::Absent,
-        Kind::ReleaseComplete => Single::Absent,
-        Kind::Facility => Single::Absent,
-        Kind::CongestionControl => Single::Absent,
-    }
-}
-
-// A congestion level belongs to CONGESTION CONTROL only.
-fn level_in(k: Kind, level: Single) -> Single
-    ensures { λ r. ⌜ r ≡ levelIn k level ⌝ }
-{
-    match k {
-        Kind::Alerting => Single::Absent,
-        Kind::CallProceeding => Single::Absent,
-        Kind::Setup => Single::Absent,
-        Kind::Connect => Single::Absent,
-        Kind::UserInformation => Single::Absent,
-        Kind::Disconnect => Single::Absent,
-        Kind::ReleaseComplete => Single::Absent,
-        Kind::Facility => Single::Absent,
-        Kind::CongestionControl => level,
-    }
-}
-
-// What a single octet says in a message of this kind.
-fn single_in(k: Kind, x: u8) -> Single
-    ensures { λ r. ⌜ r ≡ singleOf k x ⌝ }
-{
-    match x {
-        0xA0 => more_in(k),
-        0xB0 => level_in(k, Single::Ready),
-        0xBF => level_in(k, Single::NotReady),
-        _ => Single::Absent,
-    }
-}
-
-fn first_single(s: Single, new: Single) -> Single
-    ensures { λ r. ⌜ r ≡ noteSingle s new ⌝ }
-{
-    match s {
-        Single::Absent => new,
-        Single::MoreData => Single::MoreData,
-        Single::Ready => Single::Ready,
-        Single::NotReady => Single::NotReady,
-    }
 }
 
 // What the element of m from i to e adds to what was found.
@@ -213,15 +114,6 @@ fn note(h: Header, f: Found, m: &[u8], i: usize, e: usize) -> Found
             facility: facility,
             user: user,
         },
-    }
-}
-
-fn cause_seen(c: Seen) -> Cause
-    ensures { λ r. ⌜ r ≡ causeSeen c ⌝ }
-{
-    match c {
-        Seen::Unseen => Cause::Absent,
-        Seen::First(v) => v,
     }
 }
 

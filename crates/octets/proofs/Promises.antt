@@ -12,13 +12,13 @@ use lib.Seq.{take-append-seam}
 use lib.Dec.{leb}
 use Rattle.order.specs.First.{First}
 use Rattle.order.proofs.Only.{exactly}
-use Rattle.component.specs.declared.room.Wrote.{Wrote}
-use Rattle.component.specs.Room.{placed, wroteOf, leftOf}
-use Rattle.component.specs.Numbers.{wroteNumber}
-use Rattle.message.specs.declared.kind.Kind.{Kind}
-use Rattle.message.specs.declared.fields.Message.{Message}
+use Rattle.room.specs.declared.Wrote.{Wrote}
+use Rattle.room.specs.Room.{placed, wroteOf, leftOf}
+use Rattle.room.specs.Numbers.{wroteNumber}
+use Rattle.fields.specs.declared.kind.Kind.{Kind}
+use Rattle.fields.specs.declared.Message.{Message}
 use Rattle.message.specs.declared.reader.Read.{Read}
-use Rattle.message.specs.Kind.{kindOf}
+use Rattle.fields.specs.Kind.{kindOf}
 use Rattle.message.specs.Elements.{then, elements}
 use Rattle.message.specs.Reading.{takenOf, headedOf, readOf, userUserOf}
 use Rattle.writer.specs.Writing.{messageOctets, messageFits}

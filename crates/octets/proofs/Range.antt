@@ -10,11 +10,11 @@ use lib.ListN.{length, getD}
 use lib.Dec.{ltb, eqb}
 use Rattle.component.specs.declared.cause.Cause.{Cause}
 use Rattle.component.specs.Facility.{invokeNumber}
-use Rattle.message.specs.declared.kind.Kind.{Kind}
-use Rattle.message.specs.declared.fields.Width.{Width}
-use Rattle.message.specs.declared.fields.Single.{Single}
-use Rattle.message.specs.declared.fields.Facilities.{Facilities}
-use Rattle.message.specs.declared.fields.Message.{Message}
+use Rattle.fields.specs.declared.kind.Kind.{Kind}
+use Rattle.fields.specs.declared.Width.{Width}
+use Rattle.fields.specs.declared.Single.{Single}
+use Rattle.fields.specs.declared.Facilities.{Facilities}
+use Rattle.fields.specs.declared.Message.{Message}
 use Rattle.writer.specs.Writing.{referenceFits, plainFits, moreFits, levelFits, singleFits, causesFit, facilitiesFit, userFits, messageFits}
 use Rattle.octets.specs.Promises.{highest, SingleIn, CauseIn, FacilitiesIn, UserElement, InRange}
 use Rattle.writer.proofs.Ranges.{both, fits}

@@ -10,13 +10,13 @@ use lib.ListN.{length, getD, take, drop, take-append-drop}
 use lib.Seq.{length-take-le}
 use lib.Dec.{ltb, leb, eqb}
 use Rattle.order.specs.First.{Rows, end, row, First}
-use Rattle.message.specs.declared.kind.Kind.{Kind}
-use Rattle.message.specs.declared.kind.Typed.{Typed}
-use Rattle.message.specs.declared.fields.Width.{Width}
-use Rattle.message.specs.declared.fields.Header.{Header}
+use Rattle.fields.specs.declared.kind.Kind.{Kind}
+use Rattle.fields.specs.declared.kind.Typed.{Typed}
+use Rattle.fields.specs.declared.Width.{Width}
+use Rattle.fields.specs.declared.Header.{Header}
 use Rattle.message.specs.declared.reader.Fault.{Fault}
 use Rattle.message.specs.declared.reader.Read.{Read}
-use Rattle.message.specs.Kind.{kindOf}
+use Rattle.fields.specs.Kind.{kindOf}
 use Rattle.message.specs.Elements.{Element, element, Split, cut, whole, then, elements}
 use Rattle.message.specs.Reading.{takenOf, widthOf, headerOf, typedOf, headedOf, readOf}
 use Rattle.message.specs.Numbers.{faultNumber, readNumber}

@@ -15,21 +15,23 @@ use Rattle.component.specs.declared.facility.Component.{Component}
 use Rattle.component.specs.Cause.{causeOf}
 use Rattle.component.specs.Facility.{facilityOf, componentFits, bodyOf, facilityOctets}
 use Rattle.component.proofs.Back.{facility-back, cause-back}
-use Rattle.message.specs.declared.kind.Kind.{Kind}
-use Rattle.message.specs.declared.kind.Typed.{Typed}
-use Rattle.message.specs.declared.fields.Width.{Width}
-use Rattle.message.specs.declared.fields.Single.{Single}
-use Rattle.message.specs.declared.fields.Facilities.{Facilities}
-use Rattle.message.specs.declared.fields.Header.{Header}
-use Rattle.message.specs.declared.fields.Message.{Message}
-use Rattle.message.specs.declared.fields.Place.{Place}
-use Rattle.message.specs.declared.reader.Seen.{Seen}
-use Rattle.message.specs.declared.reader.Found.{Found}
+use Rattle.fields.specs.declared.kind.Kind.{Kind}
+use Rattle.fields.specs.declared.kind.Typed.{Typed}
+use Rattle.fields.specs.declared.Width.{Width}
+use Rattle.fields.specs.declared.Single.{Single}
+use Rattle.fields.specs.declared.Facilities.{Facilities}
+use Rattle.fields.specs.declared.Header.{Header}
+use Rattle.fields.specs.declared.Message.{Message}
+use Rattle.fields.specs.declared.Place.{Place}
+use Rattle.fields.specs.declared.found.Seen.{Seen}
+use Rattle.fields.specs.declared.found.Found.{Found}
 use Rattle.message.specs.declared.reader.Read.{Read}
-use Rattle.message.specs.Kind.{kindOf, kindOctet}
+use Rattle.fields.specs.Kind.{kindOf, kindOctet}
 use Rattle.message.specs.Elements.{element, elements, counted}
-use Rattle.message.specs.Reading.{moreIn, levelIn, singleOf, takenOf, widthOf, headerOf, readOf, partOf, userUserOf}
-use Rattle.message.specs.Scan.{oneMore, causeSeen, Adds, takenWith}
+use Rattle.fields.specs.Found.{moreIn, levelIn, singleOf}
+use Rattle.message.specs.Reading.{takenOf, widthOf, headerOf, readOf, partOf, userUserOf}
+use Rattle.fields.specs.Found.{oneMore, causeSeen}
+use Rattle.message.specs.Scan.{Adds, takenWith}
 use Rattle.writer.specs.Writing.{topOf, referenceOctets, headerOctets, headerSize, singleOctets, causesOctets, facilitiesOctets, frontOctets, messageOctets, referenceFits, plainFits, moreFits, singleFits, causesFit, facilitiesFit, userFits, messageFits}
 use Rattle.octets.specs.Promises.{UserElement, placeFor}
 use Rattle.message.proofs.Splitting.{alone, lengthy, none-left}

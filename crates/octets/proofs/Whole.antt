@@ -9,12 +9,12 @@ use borrow.Author.Tests.{ltb-false, leb-true, leb-false, eqb-true, le-leb}
 use lib.ListN.{length, getD, take, drop, length-drop}
 use lib.Seq.{length-take-le, drop-drop, getD-drop}
 use lib.Dec.{ltb, leb, eqb}
-use Rattle.message.specs.declared.kind.Typed.{Typed}
-use Rattle.message.specs.declared.fields.Width.{Width}
-use Rattle.message.specs.declared.fields.Header.{Header}
-use Rattle.message.specs.declared.fields.Place.{Place}
+use Rattle.fields.specs.declared.kind.Typed.{Typed}
+use Rattle.fields.specs.declared.Width.{Width}
+use Rattle.fields.specs.declared.Header.{Header}
+use Rattle.fields.specs.declared.Place.{Place}
 use Rattle.message.specs.declared.reader.Read.{Read}
-use Rattle.message.specs.Kind.{kindOf}
+use Rattle.fields.specs.Kind.{kindOf}
 use Rattle.message.specs.Elements.{element, Split, cut, whole, then, elements, locking, shifting, counted}
 use Rattle.message.specs.Elements as el
 use Rattle.message.specs.Reading.{firstPlace, readingOf, takenOf, widthOf, headerOf, typedOf, headedOf, readOf, placeIn, partOf, userUserOf}

@@ -3,8 +3,8 @@ use Prim.Native.Nat.{ℕ}
 use mathlib.Core.List.{List}
 use mathlib.Core.Bool.{Bool}
 use mathlib.Core.Path.{_≡_}
-use Rattle.component.specs.declared.room.Wrote.{Wrote}
-use Rattle.component.specs.Room.{Written}
+use Rattle.room.specs.declared.Wrote.{Wrote}
+use Rattle.room.specs.Room.{Written}
 
 -- ONE REPLY. "the reply is f of the arguments", whatever f is: a number, a record, the list of what is lent at exit, or all of these
 abbrev pub OneReply : Type 1

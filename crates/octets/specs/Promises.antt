@@ -7,19 +7,19 @@ use mathlib.Core.Path.{_≡_}
 use lib.ListN.{length, getD, take, drop, replicate}
 use Rattle.order.specs.First.{Rows, end, row, Exactly}
 use Rattle.component.specs.declared.cause.Cause.{Cause}
-use Rattle.component.specs.declared.room.Wrote.{Wrote}
-use Rattle.component.specs.Room.{wroteOf, leftOf}
+use Rattle.room.specs.declared.Wrote.{Wrote}
+use Rattle.room.specs.Room.{wroteOf, leftOf}
 use Rattle.component.specs.Facility.{invokeNumber}
-use Rattle.component.specs.Numbers.{wroteNumber}
-use Rattle.message.specs.declared.kind.Kind.{Kind}
-use Rattle.message.specs.declared.kind.Typed.{Typed}
-use Rattle.message.specs.declared.fields.Width.{Width}
-use Rattle.message.specs.declared.fields.Single.{Single}
-use Rattle.message.specs.declared.fields.Facilities.{Facilities}
-use Rattle.message.specs.declared.fields.Message.{Message}
-use Rattle.message.specs.declared.fields.Place.{Place}
+use Rattle.room.specs.Numbers.{wroteNumber}
+use Rattle.fields.specs.declared.kind.Kind.{Kind}
+use Rattle.fields.specs.declared.kind.Typed.{Typed}
+use Rattle.fields.specs.declared.Width.{Width}
+use Rattle.fields.specs.declared.Single.{Single}
+use Rattle.fields.specs.declared.Facilities.{Facilities}
+use Rattle.fields.specs.declared.Message.{Message}
+use Rattle.fields.specs.declared.Place.{Place}
 use Rattle.message.specs.declared.reader.Read.{Read}
-use Rattle.message.specs.Kind.{kindOf}
+use Rattle.fields.specs.Kind.{kindOf}
 use Rattle.message.specs.Reading.{readOf, placeIn, userUserOf}
 use Rattle.writer.specs.Writing.{frontOctets, messageOctets, messageFits}
 use Rattle.message.specs.Numbers.{readNumber}

@@ -1,7 +1,7 @@
 // A trace from standard input to standard output, in a fixed amount of memory. What is printed is computed in `rerun` and
 // `report`; here octets are only read, kept and written.
 use call::Call;
-use component::room::end_of;
+use room::end_of;
 use libc::STDIN_FILENO;
 use libc::STDOUT_FILENO;
 use report::write_first;

@@ -12,10 +12,10 @@ use Rattle.component.specs.declared.facility.Refusal.{Refusal}
 use Rattle.component.specs.declared.facility.Service.{Service}
 use Rattle.component.specs.declared.facility.Wish.{Wish}
 use Rattle.component.specs.Facility.{invokeNumber}
-use Rattle.message.specs.declared.fields.Facilities.{Facilities as LineFacilities}
-use Rattle.message.specs.declared.fields.Message.{Message as LineMessage}
-use Rattle.message.specs.declared.fields.Single.{Single}
-use Rattle.message.specs.declared.kind.Kind.{Kind as LineKind}
+use Rattle.fields.specs.declared.Facilities.{Facilities as LineFacilities}
+use Rattle.fields.specs.declared.Message.{Message as LineMessage}
+use Rattle.fields.specs.declared.Single.{Single}
+use Rattle.fields.specs.declared.kind.Kind.{Kind as LineKind}
 use Rattle.message.specs.Reading.{andSays, firstThree}
 use Rattle.octets.proofs.Promises.{alike}
 use Rattle.octets.proofs.Range.{range-fits}

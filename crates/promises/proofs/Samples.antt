@@ -17,10 +17,11 @@ use Rattle.call.specs.Tick.{tickedMetersOf, refillsOf, readyOf, runsOf, passesT
 use Rattle.call.specs.Step.{notAnEventOf}
 use Rattle.component.specs.Cause.{causeOf}
 use Rattle.component.specs.Facility.{size, stand, spells, filled, serviceOf, wishOf, refusalOf, readAs, invokeOf, resultOf, errorOf, facilityOf as componentOf}
-use Rattle.component.specs.Room.{placed, wroteOf, leftOf}
+use Rattle.room.specs.Room.{placed, wroteOf, leftOf}
 use Rattle.message.specs.Elements.{then, elements, counted}
-use Rattle.message.specs.Kind.{kindOf}
-use Rattle.message.specs.Reading.{singleOf, firstSingle, firstCause, firstPlace, components, readingOf, takenOf, headedOf, readOf, userUserOf}
+use Rattle.fields.specs.Kind.{kindOf}
+use Rattle.fields.specs.Found.{singleOf}
+use Rattle.message.specs.Reading.{firstSingle, firstCause, firstPlace, components, readingOf, takenOf, headedOf, readOf, userUserOf}
 use Rattle.writer.specs.Writing.{frontOctets, messageOctets, userFits, messageFits}
 use Rattle.promises.specs.Samples.{Samples}
 

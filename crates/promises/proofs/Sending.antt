@@ -10,9 +10,9 @@ use Rattle.component.specs.declared.facility.Component.{Component}
 use Rattle.component.specs.declared.facility.Facility.{Facility}
 use Rattle.component.specs.declared.facility.Service.{Service}
 use Rattle.component.specs.Facility.{invokeNumber}
-use Rattle.component.specs.Numbers.{wroteNumber}
-use Rattle.message.specs.declared.fields.Message.{Message as LineMessage}
-use Rattle.message.specs.declared.fields.Single.{Single}
+use Rattle.room.specs.Numbers.{wroteNumber}
+use Rattle.fields.specs.declared.Message.{Message as LineMessage}
+use Rattle.fields.specs.declared.Single.{Single}
 use Rattle.message.specs.Reading.{andSays, firstThree}
 use Rattle.octets.specs.Promises.{SingleIn, CauseIn, FacilitiesIn, UserElement, InRange, answerOf}
 use Rattle.octets.proofs.Promises.{reads, round-trip, writes}

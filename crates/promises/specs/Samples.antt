@@ -4,8 +4,8 @@ use mathlib.Core.List.{List, [], _∷_, _++_}
 use mathlib.Core.Bool.{true, false}
 use mathlib.Core.Path.{_≡_}
 use lib.ListN.{take, replicate}
-use Rattle.component.specs.declared.room.Wrote.{Wrote}
-use Rattle.message.specs.declared.fields.Width.{Width}
+use Rattle.room.specs.declared.Wrote.{Wrote}
+use Rattle.fields.specs.declared.Width.{Width}
 use Rattle.message.specs.Reading.{userUserOf}
 use Rattle.service.specs.declared.standing.Given.{Given}
 use Rattle.service.specs.declared.standing.Request.{Request}

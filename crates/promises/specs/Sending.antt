@@ -10,13 +10,13 @@ use Rattle.component.specs.declared.facility.Facility.{Facility}
 use Rattle.component.specs.declared.facility.Refusal.{Refusal}
 use Rattle.component.specs.declared.facility.Service.{Service}
 use Rattle.component.specs.declared.facility.Wish.{Wish}
-use Rattle.component.specs.declared.room.Wrote.{Wrote}
-use Rattle.component.specs.Numbers.{wroteNumber}
-use Rattle.message.specs.declared.fields.Facilities.{Facilities as LineFacilities}
-use Rattle.message.specs.declared.fields.Message.{Message as LineMessage}
-use Rattle.message.specs.declared.fields.Single.{Single}
-use Rattle.message.specs.declared.fields.Width.{Width}
-use Rattle.message.specs.declared.kind.Kind.{Kind as LineKind}
+use Rattle.room.specs.declared.Wrote.{Wrote}
+use Rattle.room.specs.Numbers.{wroteNumber}
+use Rattle.fields.specs.declared.Facilities.{Facilities as LineFacilities}
+use Rattle.fields.specs.declared.Message.{Message as LineMessage}
+use Rattle.fields.specs.declared.Single.{Single}
+use Rattle.fields.specs.declared.Width.{Width}
+use Rattle.fields.specs.declared.kind.Kind.{Kind as LineKind}
 use Rattle.message.specs.Reading.{andSays, firstThree, userUserOf}
 use Rattle.writer.specs.Writing.{messageOctets}
 use Rattle.octets.specs.Promises.{highest, answerOf, bufferOf, Back}

@@ -5,7 +5,7 @@ use mathlib.Core.Path.{_≡_, refl, sym, ap, _∙_}
 use native.Mathlib.Omega.{arith}
 use lib.ListN.{length, take, drop}
 use lib.Seq.{length-take-le, take-at, drop-append-add}
-use Rattle.component.specs.Room.{placed}
+use Rattle.room.specs.Room.{placed}
 use Rattle.text.specs.Pieces.{Piece}
 use Rattle.text.proofs.Pieced.{spelled, two, no-piece}
 use Rattle.report.specs.Items.{commas, joined}

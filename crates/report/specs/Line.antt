@@ -6,7 +6,7 @@ use Rattle.service.specs.Element.{noteNumberOf}
 use Rattle.rules.specs.declared.message.Sent.{Sent}
 use Rattle.rules.specs.Message.{kindNumberOf}
 use Rattle.trace.specs.declared.reading.Fault.{Fault}
-use Rattle.trace.specs.Kind.{kindOctet}
+use Rattle.body.specs.Kind.{kindOctet}
 use Rattle.trace.specs.Reading.{faultNumber}
 use Rattle.text.specs.Decimal.{decimalOf}
 use Rattle.text.specs.Hex.{hexOf}

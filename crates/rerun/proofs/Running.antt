@@ -8,20 +8,20 @@ use borrow.Author.Tests.{le-leb, lt-leb, ltb-false}
 use lib.Dec.{leb, ltb, eqb}
 use lib.ListN.{length, getD, take, drop, length-append, length-drop, drop-of-length-le}
 use lib.Seq.{drop-drop, take-at}
-use Rattle.component.specs.declared.room.Bar.{Bar}
-use Rattle.component.specs.declared.room.Wrote.{Wrote}
-use Rattle.component.specs.Room.{placed, Written}
-use Rattle.component.proofs.Pieces.{length-placed, placed-then}
+use Rattle.room.specs.declared.Bar.{Bar}
+use Rattle.room.specs.declared.Wrote.{Wrote}
+use Rattle.room.specs.Room.{placed, Written}
+use Rattle.room.proofs.Pieces.{length-placed, placed-then}
 use Rattle.text.proofs.Pieced.{took, refused, no-piece}
 use Rattle.call.specs.declared.Call.{Call}
-use Rattle.trace.specs.declared.kind.Kind.{Kind}
-use Rattle.trace.specs.declared.kind.Named.{Named}
+use Rattle.body.specs.declared.kind.Kind.{Kind}
+use Rattle.body.specs.declared.kind.Named.{Named}
 use Rattle.trace.specs.declared.reading.Entry.{Entry}
 use Rattle.trace.specs.declared.reading.Fault.{Fault}
 use Rattle.trace.specs.declared.reading.Record.{Record}
-use Rattle.trace.specs.Kind.{sizeOf, kindOf}
+use Rattle.body.specs.Kind.{sizeOf, kindOf}
 use Rattle.trace.specs.Reading.{recordOf, namedOf, entryOf, rangedOf}
-use Rattle.trace.proofs.Sizes.{least}
+use Rattle.body.proofs.Sizes.{least}
 use Rattle.report.specs.Line.{lineOf, faultLine}
 use Rattle.rerun.specs.declared.Front.{Front}
 use Rattle.rerun.specs.declared.Worked.{Worked}

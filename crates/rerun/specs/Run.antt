@@ -5,7 +5,7 @@ use mathlib.Core.Bool.{Bool, true, false, cond}
 use mathlib.Core.Path.{_≡_}
 use lib.ListN.{length, drop}
 use lib.Dec.{leb}
-use Rattle.component.specs.Room.{placed}
+use Rattle.room.specs.Room.{placed}
 use Rattle.call.specs.declared.Call.{Call}
 use Rattle.exchange.specs.declared.settle.Outcome.{Outcome}
 use Rattle.exchange.specs.declared.bridge.Turned.{Turned}
@@ -14,7 +14,7 @@ use Rattle.exchange.specs.Bridge.{turnedOf}
 use Rattle.trace.specs.declared.reading.Entry.{Entry}
 use Rattle.trace.specs.declared.reading.Fault.{Fault}
 use Rattle.trace.specs.declared.reading.Record.{Record}
-use Rattle.trace.specs.Kind.{sizeOf}
+use Rattle.body.specs.Kind.{sizeOf}
 use Rattle.trace.specs.Reading.{recordOf, elementOf}
 use Rattle.report.specs.declared.Columns.{Columns}
 use Rattle.report.specs.Line.{lineOf, faultLine}

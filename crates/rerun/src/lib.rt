@@ -2,7 +2,7 @@
 ghost use mathlib.Core.Path.{_≡_};
 ghost use Rattle.rerun.specs.Run.{heardOf, frontOf, turnedAt, columnsOf, soFar, WorkedOff};
 use call::Call;
-use component::room::Wrote;
+use room::Wrote;
 use exchange::bridge::Turned;
 use exchange::bridge::step_in;
 use exchange::choice::verdict_number;
@@ -10,7 +10,7 @@ use exchange::settle::Outcome;
 use report::Columns;
 use report::write_fault;
 use report::write_line;
-use trace::kind::size;
+use body::kind::size;
 use trace::reading::Entry;
 use trace::reading::Fault;
 use trace::reading::Record;

@@ -9,11 +9,11 @@ use borrow.Author.Tests.{le-leb, leb-true, leb-false}
 use lib.Dec.{leb}
 use lib.ListN.{length, take, drop, length-append, length-drop}
 use lib.Seq.{length-take-le, take-at, drop-append-add, drop-drop, paste-zero, take-append-seam}
-use Rattle.component.specs.declared.room.Bar.{Bar}
-use Rattle.component.specs.declared.room.Wrote.{Wrote}
-use Rattle.component.specs.Room.{placed, wroteOf, leftOf, Written}
-use Rattle.component.specs.Putting.{endOf}
-use Rattle.component.proofs.Pieces.{length-placed, placed-then}
+use Rattle.room.specs.declared.Bar.{Bar}
+use Rattle.room.specs.declared.Wrote.{Wrote}
+use Rattle.room.specs.Room.{placed, wroteOf, leftOf, Written}
+use Rattle.room.specs.Putting.{endOf}
+use Rattle.room.proofs.Pieces.{length-placed, placed-then}
 use Rattle.text.specs.Pieces.{Piece}
 
 -- what was written where there is room for it is a piece

@@ -1,8 +1,5 @@
-pub mod Blank
 pub mod Lying
-pub mod Sizes
+pub mod Tests
 pub mod Naming
-pub mod Sizing
 pub mod Ranged
-pub mod Trip
 pub mod Promises

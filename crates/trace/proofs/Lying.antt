@@ -1,9 +1,6 @@
 -- Whether a part of n octets from place p on lies in a trace of l octets.
-use Prim.Native.Nat.{ℕ, zero, suc, _+_, _-_, _<_, _≤_}
-use mathlib.Core.List.{List, [], _∷_}
-use native.Mathlib.Nat.{sub-zero}
-use lib.ListN.{take, drop, replicate}
-use mathlib.Core.Path.{_≡_, refl, ap}
+use Prim.Native.Nat.{ℕ, _+_, _-_, _<_, _≤_}
+use mathlib.Core.Path.{_≡_}
 use native.Mathlib.Omega.{arith}
 
 module _ (p n l : ℕ) where
@@ -18,16 +15,3 @@ module _ (p n l : ℕ) where
 
 pub size : (p n : ℕ) → p + n - p ≡ n
 size p n = omega arith
-
--- the zeros after n octets of an element field of 132
-pub left-over : (n : ℕ) → 132 - (n + 1) ≡ 131 - n
-left-over n = omega arith
-
-taken-zeros : (k n : ℕ) → k ≤ n → take k (replicate {A = ℕ} n 0) ≡ replicate {A = ℕ} k 0
-taken-zeros zero n h = refl
-taken-zeros (suc k) zero h = absurd (omega arith)
-taken-zeros (suc k) (suc n) h = ap (λ (l : List ℕ). 0 ∷ l) (taken-zeros k n (omega arith))
-
--- as many zeros as are left over
-pub zeros-taken : (n : ℕ) → take (131 - n - 0) (drop 0 (replicate {A = ℕ} 131 0)) ≡ replicate {A = ℕ} (131 - n) 0
-zeros-taken n = rw (sub-zero (131 - n)) (taken-zeros (131 - n) 131 (omega arith))

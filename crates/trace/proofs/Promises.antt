@@ -11,16 +11,14 @@ use lib.Seq.{getD-append-add, take-append-seam}
 use lib.Dec.{ltb, leb, eqb}
 use Rattle.order.specs.First.{row, end, First}
 use Rattle.order.proofs.Only.{exactly}
-use Rattle.call.specs.declared.Event.{Event}
-use Rattle.trace.specs.declared.kind.Kind.{Kind}
-use Rattle.trace.specs.declared.kind.Named.{Named}
+use Rattle.body.specs.declared.kind.Kind.{Kind}
+use Rattle.body.specs.declared.kind.Named.{Named}
 use Rattle.trace.specs.declared.reading.Fault.{Fault}
 use Rattle.trace.specs.declared.reading.Record.{Record}
-use Rattle.trace.specs.Kind.{kindOf, sizeOf}
+use Rattle.body.specs.Kind.{kindOf, sizeOf}
 use Rattle.trace.specs.Reading.{rangedOf, entryOf, namedOf, recordOf}
-use Rattle.trace.specs.Promises.{recordNumber, InRange, Short, OutOfRange, recordRows, Records, RoundTrip}
+use Rattle.trace.specs.Promises.{recordNumber, InRange, Short, OutOfRange, recordRows, Records}
 use Rattle.trace.proofs.Ranged.{in-range, ranged}
-use Rattle.trace.proofs.Trip.{round-trip-of}
 
 -- RECORDS, by what is known of the trace's front
 module _ (t : List ℕ) where
@@ -54,6 +52,3 @@ module _ (t : List ℕ) where
 pub records : Records
 unfolding recordOf
 records t = exactly (recordRows t) _ (at-the-end t _ refl)
-
-pub round-trip : RoundTrip
-round-trip r e u rest h = round-trip-of r e u rest h

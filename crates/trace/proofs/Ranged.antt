@@ -9,12 +9,12 @@ use borrow.Author.Tests.{ltb-false, leb-true, le-leb, eqb-true, eqb-false, le-lt
 use lib.ListN.{length, getD, take, drop, length-take, length-drop}
 use lib.Seq.{getD-take, getD-drop, length-take-le}
 use lib.Dec.{ltb, leb, eqb}
-use Rattle.trace.specs.declared.kind.Kind.{Kind}
-use Rattle.trace.specs.Kind.{sizeOf}
-use Rattle.trace.specs.Field.{blankOf, fieldFitsOf}
+use Rattle.body.specs.declared.kind.Kind.{Kind}
+use Rattle.body.specs.Kind.{sizeOf}
+use Rattle.body.specs.Field.{blankOf, fieldFitsOf}
 use Rattle.trace.specs.Reading.{threeFitOf, fieldAtOf, setupRangedOf, answeringRangedOf, informationRangedOf, facilityRangedOf, disconnectRangedOf, rangedOf}
 use Rattle.trace.specs.Promises.{Zeros, Held, Field, Three, InRange}
-use Rattle.trace.proofs.Sizing.{both, if-so, if-not}
+use Rattle.trace.proofs.Tests.{both, if-so, if-not}
 
 -- zeros, one by one
 blank-each : (l : List ℕ) → blankOf l ≡ true → (i : ℕ) → getD l i 0 ≡ 0

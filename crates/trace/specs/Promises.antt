@@ -6,14 +6,11 @@ use mathlib.Core.Bool.{true}
 use mathlib.Core.Path.{_≡_}
 use lib.ListN.{length, getD}
 use Rattle.order.specs.First.{Rows, end, row, Exactly}
-use Rattle.call.specs.declared.Event.{Event}
-use Rattle.trace.specs.declared.kind.Kind.{Kind}
-use Rattle.trace.specs.declared.kind.Named.{Named}
+use Rattle.body.specs.declared.kind.Kind.{Kind}
+use Rattle.body.specs.declared.kind.Named.{Named}
 use Rattle.trace.specs.declared.reading.Record.{Record}
-use Rattle.trace.specs.declared.reading.Entry.{Entry}
-use Rattle.trace.specs.Kind.{kindOf, sizeOf}
-use Rattle.trace.specs.Reading.{faultNumber, recordOf, elementOf}
-use Rattle.trace.specs.Writing.{recordOctets, recordFitsOf}
+use Rattle.body.specs.Kind.{kindOf, sizeOf}
+use Rattle.trace.specs.Reading.{faultNumber, recordOf}
 
 -- an event, or the end of the trace, has number 0
 abbrev pub recordNumber : Record → ℕ
@@ -70,18 +67,3 @@ recordRows t =
 -- for every octet string at the front of a trace exactly one of an event (or the end), 31, 32, 33
 abbrev pub Records : Type 0
 Records = (t : List ℕ) → Exactly (recordRows t) (recordNumber (recordOf t))
-
--- ROUND TRIP. What is written reads back as the same event and element, whatever follows it in the trace.
-pub record Back (r : ℕ) (e : Event) (u t : List ℕ) (x : Entry) : Type 0 where
-  pub taken : recordOf t ≡ Record.Taken x
-  pub reference : x .reference ≡ r
-  pub event : x .event ≡ e
-  pub element : elementOf x t ≡ u
-
-pub record Again (r : ℕ) (e : Event) (u t : List ℕ) : Type 0 where
-  pub entry : Entry
-  pub back : Back r e u t entry
-
-abbrev pub RoundTrip : Type 0
-RoundTrip =
-    (r : ℕ) (e : Event) (u rest : List ℕ) → recordFitsOf r e u ≡ true → Again r e u (recordOctets r e u ++ rest)

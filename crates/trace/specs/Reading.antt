@@ -8,13 +8,13 @@ use Rattle.call.specs.declared.Event.{Event}
 use Rattle.service.specs.declared.rights.Rights.{Rights}
 use Rattle.service.specs.declared.standing.Answers.{Answers}
 use Rattle.service.specs.declared.standing.Requests.{Requests}
-use Rattle.trace.specs.declared.kind.Kind.{Kind}
-use Rattle.trace.specs.declared.kind.Named.{Named}
+use Rattle.body.specs.declared.kind.Kind.{Kind}
+use Rattle.body.specs.declared.kind.Named.{Named}
 use Rattle.trace.specs.declared.reading.Fault.{Fault}
 use Rattle.trace.specs.declared.reading.Entry.{Entry}
 use Rattle.trace.specs.declared.reading.Record.{Record}
-use Rattle.trace.specs.Kind.{kindOf, sizeOf}
-use Rattle.trace.specs.Field.{flagOf, sideOf, requestOf, givenOf, whatOf, fieldSize, fieldFitsOf}
+use Rattle.body.specs.Kind.{kindOf, sizeOf}
+use Rattle.body.specs.Field.{flagOf, sideOf, requestOf, givenOf, whatOf, fieldSize, fieldFitsOf}
 
 -- the paper's number for each fault
 abbrev pub faultNumber : Fault → ℕ

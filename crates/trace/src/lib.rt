@@ -1,5 +1,2 @@
-// Records of a trace: one octet of kind, and a body of fixed length.
-pub mod field;
-pub mod kind;
+// Records of a trace: one octet of kind, and a body of fixed length. `recorder` has the way back.
 pub mod reading;
-pub mod writing;

@@ -10,12 +10,12 @@ use lib.Dec.{eqb}
 use Rattle.component.specs.declared.cause.Cause.{Cause}
 use Rattle.component.specs.declared.facility.Component.{Component}
 use Rattle.component.specs.Facility.{filled, facilityOctets}
-use Rattle.message.specs.declared.kind.Kind.{Kind}
-use Rattle.message.specs.declared.fields.Width.{Width}
-use Rattle.message.specs.declared.fields.Single.{Single}
-use Rattle.message.specs.declared.fields.Facilities.{Facilities}
-use Rattle.message.specs.declared.fields.Message.{Message}
-use Rattle.message.specs.Kind.{kindOctet}
+use Rattle.fields.specs.declared.kind.Kind.{Kind}
+use Rattle.fields.specs.declared.Width.{Width}
+use Rattle.fields.specs.declared.Single.{Single}
+use Rattle.fields.specs.declared.Facilities.{Facilities}
+use Rattle.fields.specs.declared.Message.{Message}
+use Rattle.fields.specs.Kind.{kindOctet}
 use Rattle.writer.specs.Writing.{referenceOctets, headerOctets, headerSize, singleOctets, causesOctets, facilitiesOctets, frontOctets, messageOctets, referenceFits, singleFits, causesFit, facilitiesFit, userFits, messageFits}
 
 -- two tests that both hold

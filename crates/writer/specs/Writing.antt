@@ -7,13 +7,13 @@ use lib.Dec.{ltb, eqb}
 use Rattle.component.specs.declared.cause.Cause.{Cause}
 use Rattle.component.specs.Cause.{causeFits, causeOctets}
 use Rattle.component.specs.Facility.{componentFits, facilityOctets}
-use Rattle.message.specs.declared.kind.Kind.{Kind}
-use Rattle.message.specs.declared.fields.Width.{Width}
-use Rattle.message.specs.declared.fields.Single.{Single}
-use Rattle.message.specs.declared.fields.Facilities.{Facilities}
-use Rattle.message.specs.declared.fields.Header.{Header}
-use Rattle.message.specs.declared.fields.Message.{Message}
-use Rattle.message.specs.Kind.{kindOctet}
+use Rattle.fields.specs.declared.kind.Kind.{Kind}
+use Rattle.fields.specs.declared.Width.{Width}
+use Rattle.fields.specs.declared.Single.{Single}
+use Rattle.fields.specs.declared.Facilities.{Facilities}
+use Rattle.fields.specs.declared.Header.{Header}
+use Rattle.fields.specs.declared.Message.{Message}
+use Rattle.fields.specs.Kind.{kindOctet}
 
 -- seven bits of the reference, with the flag as the top bit
 abbrev pub topOf : Bool → ℕ → ℕ

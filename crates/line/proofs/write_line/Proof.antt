@@ -1,6 +1,6 @@
 use mathlib.Core.Path.{refl}
 use native.Mathlib.Omega.{arith}
-use Rattle.component.proofs.Outcome.{put-in}
+use Rattle.room.proofs.Outcome.{put-in}
 use Rattle.line.specs.Line.{lineOf}
 use Rattle.text.proofs.Pieced.{at-start}
 use borrow.Author.Needs.{needs}

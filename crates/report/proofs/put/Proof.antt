@@ -5,8 +5,8 @@ use Rattle.report.proofs.put.Statement.{statement}
 use Rattle.report.proofs.put.Tie as tie
 use Rattle.report.proofs.put.Reads as reads
 use Rattle.report.proofs.put.Lts as lts
-use Rattle.component.proofs.room.end_of.Reads as end-of-reads
-use Rattle.component.proofs.room.write_octets.Reads as write-octets-reads
+use Rattle.room.proofs.end_of.Reads as end-of-reads
+use Rattle.room.proofs.write_octets.Reads as write-octets-reads
 
 write-octets-requires : tie.Need-write-octets-requires
 write-octets-requires c κs = search needs

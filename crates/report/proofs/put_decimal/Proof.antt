@@ -6,7 +6,7 @@ use Rattle.report.proofs.put_decimal.Statement.{statement}
 use Rattle.report.proofs.put_decimal.Tie as tie
 use Rattle.report.proofs.put_decimal.Reads as reads
 use Rattle.report.proofs.put_decimal.Lts as lts
-use Rattle.component.proofs.room.end_of.Reads as end-of-reads
+use Rattle.room.proofs.end_of.Reads as end-of-reads
 use Rattle.text.proofs.decimal.write_decimal.Reads as write-decimal-reads
 
 write-decimal-requires : tie.Need-write-decimal-requires

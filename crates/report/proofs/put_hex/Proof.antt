@@ -5,7 +5,7 @@ use Rattle.report.proofs.put_hex.Statement.{statement}
 use Rattle.report.proofs.put_hex.Tie as tie
 use Rattle.report.proofs.put_hex.Reads as reads
 use Rattle.report.proofs.put_hex.Lts as lts
-use Rattle.component.proofs.room.end_of.Reads as end-of-reads
+use Rattle.room.proofs.end_of.Reads as end-of-reads
 use Rattle.text.proofs.hex.write_hex.Reads as write-hex-reads
 
 write-hex-requires : tie.Need-write-hex-requires

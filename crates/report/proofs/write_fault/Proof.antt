@@ -4,7 +4,7 @@ use Rattle.report.proofs.write_fault.Statement.{statement}
 use Rattle.report.proofs.write_fault.Tie as tie
 use Rattle.report.proofs.write_fault.Reads as reads
 use Rattle.report.proofs.write_fault.Lts as lts
-use Rattle.component.proofs.room.write_octets.Reads as write-octets-reads
+use Rattle.room.proofs.write_octets.Reads as write-octets-reads
 
 enum-told : tie.Need-enum-told
 enum-told c = search needs

@@ -3,7 +3,7 @@ use Rattle.report.proofs.write_first.Statement.{statement}
 use Rattle.report.proofs.write_first.Tie as tie
 use Rattle.report.proofs.write_first.Reads as reads
 use Rattle.report.proofs.write_first.Lts as lts
-use Rattle.component.proofs.room.write_octets.Reads as write-octets-reads
+use Rattle.room.proofs.write_octets.Reads as write-octets-reads
 
 slice-aggregate-write-octets : tie.Need-slice-aggregate-write-octets
 slice-aggregate-write-octets c = search needs

@@ -14,7 +14,7 @@ use Rattle.rerun.proofs.columns_of.Reads as columns-of-reads
 use Rattle.rerun.proofs.front_of.Reads as front-of-reads
 use Rattle.rerun.proofs.so_far.Reads as so-far-reads
 use Rattle.rerun.proofs.turn.Reads as turn-reads
-use Rattle.trace.proofs.kind.size.Reads as size-reads
+use Rattle.body.proofs.kind.size.Reads as size-reads
 
 abbrev Inv-loop : tie.InvT-loop
 Inv-loop piece last explained out₀ table₀ i₀ k₀ out table i k = Goes explained last table₀ piece out₀ table out i k

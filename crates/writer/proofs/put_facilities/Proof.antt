@@ -2,7 +2,7 @@ use mathlib.Core.Bool.{_&&_}
 use Rattle.component.specs.Facility.{componentFits}
 use native.Mathlib.Omega.{arith}
 use lib.ListN.{length-append}
-use Rattle.component.proofs.Pieces.{no-put, puts}
+use Rattle.room.proofs.Pieces.{no-put, puts}
 use Rattle.writer.proofs.Ranges.{both}
 use borrow.Author.Needs.{needs}
 use Rattle.writer.proofs.put_facilities.Statement.{statement}

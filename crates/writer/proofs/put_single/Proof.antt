@@ -1,13 +1,13 @@
 use mathlib.Core.Path.{refl}
 use native.Mathlib.Omega.{arith}
-use Rattle.component.proofs.Pieces.{no-put, settles}
+use Rattle.room.proofs.Pieces.{no-put, settles}
 use borrow.Author.Needs.{needs}
 use Rattle.writer.proofs.put_single.Statement.{statement}
 use Rattle.writer.proofs.put_single.Tie as tie
 use Rattle.writer.proofs.put_single.Reads as reads
 use Rattle.writer.proofs.put_single.Lts as lts
-use Rattle.component.proofs.room.write_octets.Reads as write-octets-reads
-use Rattle.component.proofs.room.end_of.Reads as end-of-reads
+use Rattle.room.proofs.write_octets.Reads as write-octets-reads
+use Rattle.room.proofs.end_of.Reads as end-of-reads
 
 enum-told : tie.Need-enum-told
 enum-told c = search needs

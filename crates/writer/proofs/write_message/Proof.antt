@@ -1,7 +1,7 @@
 use mathlib.Core.Path.{sym, _∙_}
 use native.Mathlib.Omega.{arith}
 use borrow.Author.Tests.{not-true, not-false}
-use Rattle.component.proofs.Outcome.{barred, no-room, put-in}
+use Rattle.room.proofs.Outcome.{barred, no-room, put-in}
 use Rattle.writer.proofs.Ranges.{message-is}
 use borrow.Author.Tests.{le-ltb, lt-ltb}
 use borrow.Author.Needs.{needs}

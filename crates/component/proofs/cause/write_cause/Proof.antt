@@ -1,11 +1,11 @@
 use borrow.Author.Tests.{le-ltb, lt-ltb}
-use Rattle.component.proofs.Outcome.{barred, in-range}
+use Rattle.room.proofs.Outcome.{barred, in-range}
 use borrow.Author.Needs.{needs}
 use Rattle.component.proofs.cause.write_cause.Statement.{statement}
 use Rattle.component.proofs.cause.write_cause.Tie as tie
 use Rattle.component.proofs.cause.write_cause.Reads as reads
 use Rattle.component.proofs.cause.write_cause.Lts as lts
-use Rattle.component.proofs.room.write_octets.Reads as write-octets-reads
+use Rattle.room.proofs.write_octets.Reads as write-octets-reads
 
 returns : tie.Need-returns
 returns c = barred (le-ltb _ _ (c .if1 .taken))

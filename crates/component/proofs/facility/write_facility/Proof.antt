@@ -1,7 +1,7 @@
 use mathlib.Core.Path.{sym, _∙_}
 use borrow.Author.Tests.{not-true, not-false}
 use Rattle.component.specs.Facility.{filled}
-use Rattle.component.proofs.Outcome.{barred, in-range}
+use Rattle.room.proofs.Outcome.{barred, in-range}
 use borrow.Author.Needs.{needs}
 use Rattle.component.proofs.facility.write_facility.Statement.{statement}
 use Rattle.component.proofs.facility.write_facility.Tie as tie
@@ -11,7 +11,7 @@ use Rattle.component.proofs.facility.component_fits.Reads as component-
 use Rattle.component.proofs.facility.refusal_octet.Reads as refusal-octet-reads
 use Rattle.component.proofs.facility.service_octet.Reads as service-octet-reads
 use Rattle.component.proofs.facility.wish_octet.Reads as wish-octet-reads
-use Rattle.component.proofs.room.write_octets.Reads as write-octets-reads
+use Rattle.room.proofs.write_octets.Reads as write-octets-reads
 
 component-fits-requires : tie.Need-component-fits-requires
 component-fits-requires c κs = search needs

@@ -8,11 +8,11 @@ use Rattle.message.proofs.reader.note.Tie as tie
 use Rattle.message.proofs.reader.note.Reads as reads
 use Rattle.message.proofs.reader.note.Lts as lts
 use Rattle.component.proofs.facility.facility_in.Reads as facility-in-reads
-use Rattle.message.proofs.reader.first_cause.Reads as first-cause-reads
-use Rattle.message.proofs.reader.first_place.Reads as first-place-reads
-use Rattle.message.proofs.reader.first_single.Reads as first-single-reads
-use Rattle.message.proofs.reader.single_in.Reads as single-in-reads
-use Rattle.message.proofs.reader.with_facility.Reads as with-facility-reads
+use Rattle.fields.proofs.found.first_cause.Reads as first-cause-reads
+use Rattle.fields.proofs.found.first_place.Reads as first-place-reads
+use Rattle.fields.proofs.found.first_single.Reads as first-single-reads
+use Rattle.fields.proofs.found.single_in.Reads as single-in-reads
+use Rattle.fields.proofs.found.with_facility.Reads as with-facility-reads
 
 shared-slice-read-x : tie.Need-shared-slice-read-x
 shared-slice-read-x c = search needs

@@ -3,7 +3,7 @@ use Rattle.message.proofs.reader.taken.Statement.{statement}
 use Rattle.message.proofs.reader.taken.Tie as tie
 use Rattle.message.proofs.reader.taken.Reads as reads
 use Rattle.message.proofs.reader.taken.Lts as lts
-use Rattle.message.proofs.reader.cause_seen.Reads as cause-seen-reads
+use Rattle.fields.proofs.found.cause_seen.Reads as cause-seen-reads
 
 cause-seen-requires : tie.Need-cause-seen-requires
 cause-seen-requires c κs = search needs

@@ -5,7 +5,7 @@ use Rattle.trace.proofs.reading.field_at.Statement.{statement}
 use Rattle.trace.proofs.reading.field_at.Tie as tie
 use Rattle.trace.proofs.reading.field_at.Reads as reads
 use Rattle.trace.proofs.reading.field_at.Lts as lts
-use Rattle.trace.proofs.field.field_fits.Reads as field-fits-reads
+use Rattle.body.proofs.field.field_fits.Reads as field-fits-reads
 
 add-e : tie.Need-add-e
 add-e c = search needs

@@ -7,7 +7,7 @@ use Rattle.trace.proofs.reading.read_kind.Statement.{statement}
 use Rattle.trace.proofs.reading.read_kind.Tie as tie
 use Rattle.trace.proofs.reading.read_kind.Reads as reads
 use Rattle.trace.proofs.reading.read_kind.Lts as lts
-use Rattle.trace.proofs.kind.size.Reads as size-reads
+use Rattle.body.proofs.kind.size.Reads as size-reads
 use Rattle.trace.proofs.reading.ranged.Reads as ranged-reads
 use Rattle.trace.proofs.reading.taken.Reads as taken-reads
 

@@ -5,7 +5,7 @@ use Rattle.trace.proofs.reading.read_record.Statement.{statement}
 use Rattle.trace.proofs.reading.read_record.Tie as tie
 use Rattle.trace.proofs.reading.read_record.Reads as reads
 use Rattle.trace.proofs.reading.read_record.Lts as lts
-use Rattle.trace.proofs.kind.kind_in.Reads as kind-in-reads
+use Rattle.body.proofs.kind.kind_in.Reads as kind-in-reads
 use Rattle.trace.proofs.reading.read_kind.Reads as read-kind-reads
 
 returns : tie.Need-returns

@@ -1,5 +1,5 @@
 use native.Mathlib.Omega.{arith}
-use Rattle.trace.proofs.Sizes.{least}
+use Rattle.body.proofs.Sizes.{least}
 use Rattle.trace.specs.Reading.{entryOf}
 use borrow.Author.Needs.{needs}
 use Rattle.trace.proofs.reading.taken.Statement.{statement}

@@ -1,0 +1,31 @@
+-- Zeros, octet by octet.
+use Prim.Native.Nat.{ℕ, suc, _+_, _-_, _<_, _≤_}
+use mathlib.Core.List.{List, [], _∷_}
+use mathlib.Core.Bool.{true, false}
+use mathlib.Core.Path.{_≡_, refl, ap, _∙_}
+use native.Mathlib.Numerals.{add-one}
+use native.Mathlib.Omega.{arith}
+use borrow.Author.Tests.{eq-eqb, ne-eqb}
+use lib.ListN.{length, getD, drop, drop-of-length-le}
+use lib.Seq.{drop-cons}
+use Rattle.body.specs.Field.{blankOf}
+
+module _ (s : List ℕ) (i : ℕ) where
+  opened : i < length s → drop i s ≡ getD s i 0 ∷ drop (i + 1) s
+  opened h = rw add-one (drop-cons s i 0 h)
+
+  pub spoilt : i < length s → (getD s i 0 ≡ 0 → ⊥) → false ≡ blankOf (drop i s)
+  unfolding blankOf
+  spoilt h n = rw (opened h) (simp (ne-eqb _ _ n))
+
+  pub next : i < length s → getD s i 0 ≡ 0 → blankOf (drop (i + 1) s) ≡ blankOf (drop i s)
+  unfolding blankOf
+  next h z = rw (opened h) (simp (eq-eqb _ _ z))
+
+  pub all-blank : length s ≤ i → true ≡ blankOf (drop i s)
+  unfolding blankOf
+  all-blank h = rw (drop-of-length-le s) refl
+
+-- the zeros after n octets of an element field of 132
+pub left-over : (n : ℕ) → 132 - (n + 1) ≡ 131 - n
+left-over n = omega arith

@@ -1,0 +1,100 @@
+// The fields of a body: small numbers, and the element with the zeros after it.
+ghost use mathlib.Core.Path.{_≡_};
+ghost use Rattle.body.specs.Field.{flagOf, sideOf, requestOf, givenOf, whatOf, blankOf, fieldFitsOf};
+use rules::asking::What;
+use rules::side::Side;
+use service::standing::Given;
+use service::standing::Request;
+
+// The octets that an element field has.
+pub const FIELD: usize = 132;
+
+pub fn flag_in(x: u8) -> bool
+    ensures { λ r. ⌜ r ≡ flagOf x ⌝ }
+{
+    x != 0
+}
+
+pub fn side_in(x: u8) -> Side
+    ensures { λ r. ⌜ r ≡ sideOf x ⌝ }
+{
+    if x == 0 { Side::Calling } else { Side::Called }
+}
+
+pub fn request_in(x: u8) -> Request
+    ensures { λ r. ⌜ r ≡ requestOf x ⌝ }
+{
+    match x {
+        0 => Request::Unasked,
+        1 => Request::Preferred,
+        _ => Request::Required,
+    }
+}
+
+pub fn given_in(x: u8) -> Given
+    ensures { λ r. ⌜ r ≡ givenOf x ⌝ }
+{
+    match x {
+        0 => Given::Silent,
+        1 => Given::Accepted,
+        _ => Given::Rejected,
+    }
+}
+
+pub fn what_in(x: u8) -> What
+    ensures { λ r. ⌜ r ≡ whatOf x ⌝ }
+{
+    match x {
+        0 => What::Preferred,
+        1 => What::Accept,
+        2 => What::Reject,
+        _ => What::Required,
+    }
+}
+
+// Whether every octet is zero.
+pub fn blank(s: &[u8]) -> bool
+    ensures { λ r. ⌜ r ≡ blankOf (now (s .entry)) ⌝ }
+{
+    let mut i = 0;
+    while i < s.len() {
+        if s[i] != 0 {
+            return false;
+        }
+        i += 1;
+    }
+    true
+}
+
+fn wide(x: u8) -> usize
+    ensures { λ r. ⌜ r ≡ x ⌝ }
+{
+    x as usize
+}
+
+// Whether an element field has its form: n, the n octets beginning 126 and n - 2, then zeros.
+pub fn field_fits(f: &[u8]) -> bool
+    ensures { λ r. ⌜ r ≡ fieldFitsOf (now (f .entry)) ⌝ }
+{
+    if f.len() != FIELD {
+        return false;
+    }
+    let n = wide(f[0]);
+    if n == 0 {
+        return blank(&f[1..132]);
+    }
+    if n < 2 {
+        return false;
+    }
+    if n > 131 {
+        return false;
+    }
+    if f[1] != 126 {
+        return false;
+    }
+    if wide(f[2]) != n - 2 {
+        return false;
+    }
+    let e = n + 1;
+    blank(&f[e..132])
+}

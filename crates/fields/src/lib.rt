@@ -1,0 +1,50 @@
+// What a message says, by value, and what one more element adds to what was found before it.
+pub mod found;
+pub mod kind;
+
+use crate::kind::Kind;
+use component::cause::Cause;
+use component::facility::Component;
+
+// How many octets the call reference has.
+pub enum Width {
+    One,
+    Two,
+}
+
+// The elements of a single octet that belong to us.
+pub enum Single {
+    Absent,
+    MoreData,
+    Ready,
+    NotReady,
+}
+
+// What the Facility elements say: at most three components, in order.
+pub enum Facilities {
+    Zero,
+    One(Component),
+    Two(Component, Component),
+    Three(Component, Component, Component),
+}
+
+pub struct Header {
+    pub width: Width,
+    pub flag: bool,
+    pub reference: u16,
+    pub kind: Kind,
+}
+
+// A message but for its user-user element, which is never copied.
+pub struct Message {
+    pub header: Header,
+    pub single: Single,
+    pub cause: Cause,
+    pub facility: Facilities,
+}
+
+// Where the user-user element stands in a message: its first octet, and how many octets it has.
+pub enum Place {
+    Absent,
+    At(usize, usize),
+}

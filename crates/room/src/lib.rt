@@ -1,0 +1,55 @@
+// Octets put into a buffer that the caller lends.
+ghost use mathlib.Core.Path.{_≡_};
+ghost use mathlib.Core.Bool.{true};
+ghost use Prim.Native.Nat.{_≤_, _+_};
+ghost use lib.ListN.{length};
+ghost use Rattle.room.specs.Putting.{endOf};
+ghost use Rattle.room.specs.Room.{placed, Written};
+
+// Why nothing was written.
+pub enum Bar {
+    Room,
+    Range,
+}
+
+// Where what was written ends, or why nothing was.
+pub enum Wrote {
+    To(usize),
+    Refused(Bar),
+}
+
+// Where the next piece starts; 0 where a piece was refused.
+pub fn end_of(w: Wrote) -> usize
+    ensures { λ r. ⌜ r ≡ endOf w ⌝ }
+{
+    match w {
+        Wrote::To(n) => n,
+        Wrote::Refused(_) => 0,
+    }
+}
+
+// Puts a piece that fits, octet by octet.
+fn put(buf: &mut [u8], at: usize, piece: &[u8]) -> usize
+    requires { ⌜ at + length (now piece) ≤ length (now buf) ⌝ }
+    ensures { λ r. ⌜ (r ≡ at + length (now (piece .entry))) × (now (buf .exit) ≡ placed at (now (piece .entry)) (now (buf .entry))) ⌝ }
+{
+    let mut j = 0;
+    while j < piece.len() {
+        buf[at + j] = piece[j];
+        j += 1;
+    }
+    at + j
+}
+
+// Puts a piece into the buffer from a place on; where it does not fit, nothing.
+pub fn write_octets(buf: &mut [u8], at: usize, piece: &[u8]) -> Wrote
+    ensures { λ r. ⌜ Written true at (now (piece .entry)) (now (buf .entry)) (now (buf .exit)) r ⌝ }
+{
+    if at > buf.len() {
+        return Wrote::Refused(Bar::Room);
+    }
+    if buf.len() - at < piece.len() {
+        return Wrote::Refused(Bar::Room);
+    }
+    Wrote::To(put(buf, at, piece))
+}

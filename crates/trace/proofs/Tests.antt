@@ -1,0 +1,15 @@
+-- What a test says of its parts.
+use mathlib.Core.Bool.{Bool, true, false, cond, _&&_, true≢false}
+use mathlib.Core.Path.{_≡_, refl, sym}
+
+pub both : (a b : Bool) → a && b ≡ true → (a ≡ true) × (b ≡ true)
+both true b h = (refl, h)
+both false b h = absurd (true≢false (sym h))
+
+pub if-so : (a b : Bool) → cond a b false ≡ true → (a ≡ true) × (b ≡ true)
+if-so true b h = (refl, h)
+if-so false b h = absurd (true≢false (sym h))
+
+pub if-not : (a b : Bool) → cond a false b ≡ true → (a ≡ false) × (b ≡ true)
+if-not true b h = absurd (true≢false (sym h))
+if-not false b h = (refl, h)
