@@ -424,7 +424,10 @@ module _ (c : Call) (q : Requests) (d : Due (c .phase) q (c .standings)) where
   unfolding inPhaseOf
   ends-agrees = record { requests = q; same = refl; due = not-due Phase.Ended q _ refl refl }
 
-  ticks-agrees : (t : Bool) → Agrees (cond t (holds a (refills (a .rights) (a .calling)) (refills (a .rights) (a .called))) a) (metersOf c (refillsOf (c .meters) (c .rights) t))
+  abbrev refilled : Account
+  refilled = holds a (refills (c .rights) (a .calling)) (refills (c .rights) (a .called))
+
+  ticks-agrees : (t : Bool) → Agrees (cond t refilled a) (metersOf c (refillsOf (c .meters) (c .rights) t))
   unfolding metersOf refillsOf tickedMetersOf tickedOf refilledOf
   ticks-agrees true = record { requests = q; same = refl; due = d }
   ticks-agrees false = record { requests = q; same = refl; due = d }
@@ -439,6 +442,9 @@ ticks-live Phase.Ended t x y = refl
 
 -- one event
 module _ (c : Call) (q : Requests) (d : Due (c .phase) q (c .standings)) (s : soundOf c ≡ true) where
+  ticks-told : (l : List ℕ) → books (told c q) Event.Tick l ≡ cond (liveOf (c .phase)) (cond (servesThreeOf (c .phase) (inForceOf (c .standings .three))) (refilled c q d) (told c q)) (told c q)
+  ticks-told l = ticks-live (c .phase) (inForceOf (c .standings .three)) _ (told c q)
+
   step-told : (e : Event) (l : List ℕ) → Agrees (books (told c q) e l) (stepOf c e l .call)
   unfolding setupOf alertingOf connectOf informationOf facilityOf disconnectOf passedOnOf replyOf releaseCompleteOf endsOf tickOf passesTickOf runsOf notAnEventOf refusedOf
   step-told (Event.Setup reference r q') l = hears _ _ c _ s (kept c q d) _ _ (λ _ _. setup-agrees reference r q' _)
@@ -451,7 +457,7 @@ module _ (c : Call) (q : Requests) (d : Due (c .phase) q (c .standings)) (s : so
   step-told (Event.Disconnect side cause g) l = hears _ _ c _ s (kept c q d) _ _ (λ _ _. closes-agrees c q d _)
   step-told (Event.ReleaseComplete side) l = hears-in _ _ c _ s (kept c q d) _ (λ _. ends-agrees c q d)
   step-told Event.Tick l =
-      rw (ticks-live (c .phase) (inForceOf (c .standings .three)) _ (told c q))
+      rw (ticks-told l)
       (hears-in _ _ c _ s (kept c q d) _ (λ _. ticks-agrees c q d _))
   step-told Event.CallProceeding l = kept c q d
   step-told Event.CongestionControl l = kept c q d
