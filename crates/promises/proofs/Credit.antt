@@ -38,7 +38,7 @@ use Rattle.service.specs.Standing.{inForceOf, askedStandingOf, firstStandingOf,
 use Rattle.rules.specs.Answer.{numberOf, takenOf}
 use Rattle.rules.specs.Asking.{asksOf, mayAskOf, toRequestOf, toAnswerOf}
 use Rattle.rules.specs.Phase.{requestedOf, connectableOf, talkingOf, activeOf, liveOf}
-use Rattle.rules.specs.Serving.{lateOf, servesTwoOf, servesThreeOf, passageAnswerOf}
+use Rattle.rules.specs.Serving.{servesTwoOf, servesThreeOf, passageAnswerOf}
 use Rattle.rules.specs.Side.{peerOf}
 use Rattle.call.specs.Answering.{grantsOf, inForceAfterOf, answeredCallOf, goesOnOf, clearsOf, outcomeOf, alertingFatesOf, connectFatesOf, answeredOf, alertingOf, connectOf}
 use Rattle.call.specs.Disconnect.{closedCallOf, passedOnOf, disconnectOf, endsOf, releaseCompleteOf}
@@ -51,7 +51,7 @@ use Rattle.call.specs.Step.{notAnEventOf, stepOf}
 use Rattle.call.specs.Tick.{tickedMetersOf, refillsOf, runsOf, passesTickOf, tickOf}
 use Rattle.promises.specs.Numbers.{Live, InRangeCall, other}
 use Rattle.promises.specs.Sound.{Offered, runOf}
-use Rattle.promises.specs.Credit.{Purse, Account, moves, grants, clears, fails, comes, accepts, lacks, remaining, begins, alerts, connects, late, byCount, byCredit, pays, informs, may, agrees, refills, holds, books, accountOf, unopened, Balanced, Credit, Covered}
+use Rattle.promises.specs.Credit.{Purse, Account, moves, grants, clears, fails, comes, accepts, lacks, remaining, begins, alerts, connects, byCount, byCredit, pays, informs, may, agrees, refills, holds, books, accountOf, unopened, Balanced, Credit, Covered}
 use Rattle.promises.proofs.Decide.{never, by-cond}
 use Rattle.promises.proofs.Heard.{Bar, unsound, phase, range, Heard, through, barred, heard}
 use Rattle.promises.proofs.Conditions.{requested, active, live, unsound as unsound-when}
@@ -275,10 +275,6 @@ serves-three Phase.Active f = refl
 serves-three Phase.Clearing f = refl
 serves-three Phase.Ended f = refl
 
-late-same : (a : Account) (side : Side) → late a side ≡ lateOf side (a .rights .late)
-late-same a Side.Calling = refl
-late-same a Side.Called = refl
-
 module _ (m : Meter) where
   under-pays : (b : Bool) → ltb 0 (m .credit) ≡ b → pays false b (purse m) ≡ purse (afterOf m (underThreeOf m))
   unfolding underThreeOf spentOf markedOf
@@ -290,6 +286,10 @@ module _ (m : Meter) where
   passage-pays two three true e = rw e refl
   passage-pays two true false e = rw e (under-pays _ refl)
   passage-pays two false false e = rw e (by-cond (λ p. purse m ≡ purse (afterOf m p)) two (λ _. refl) (λ _. refl))
+
+  -- with services 2 and 3 in force or not, and late delivery or not
+  talks-pays : (p : Phase) (two t three : Bool) → talkingOf p ≡ true → pays ((two && (not (activeOf p) || t)) && ltb (m .count) 2) ((activeOf p && three) && ltb 0 (m .credit)) (purse m) ≡ purse (afterOf m (passageOf m (servesTwoOf p two t) (servesThreeOf p three)))
+  talks-pays p two t three h = rw (serves-two p two t h, serves-three p three) (passage-pays (servesTwoOf p two t) (servesThreeOf p three) _ refl)
 
 -- FACILITY
 may-same : (r : Rights) (side : Side) → may r side ≡ mayAskOf r side
@@ -311,6 +311,18 @@ unfolding toAnswerOf
 answer-taken true asks = refl
 answer-taken false true = refl
 answer-taken false false = refl
+
+-- the tick
+abbrev refilled : Account → Account
+refilled a = holds a (refills (a .rights) (a .calling)) (refills (a .rights) (a .called))
+
+ticks-live : {A : Type 0} (p : Phase) (t : Bool) (x y : A) → cond (activeOf p && t) x y ≡ cond (liveOf p) (cond (servesThreeOf p t) x y) y
+ticks-live Phase.Fresh t x y = refl
+ticks-live Phase.Requested t x y = refl
+ticks-live Phase.Alerting t x y = refl
+ticks-live Phase.Active t x y = refl
+ticks-live Phase.Clearing t x y = refl
+ticks-live Phase.Ended t x y = refl
 
 -- the events that a sound record takes
 module _ (c : Call) (q : Requests) (d : Due (c .phase) q (c .standings)) where
@@ -375,19 +387,13 @@ module _ (c : Call) (q : Requests) (d : Due (c .phase) q (c .standings)) where
   carried-agrees Side.Calling more h =
       record {
         requests = q;
-        same =
-            let m = c .meters .calling in
-            rw (serves-two (c .phase) (inForceOf (c .standings .two)) (c .rights .late) h, serves-three (c .phase) (inForceOf (c .standings .three)), passage-pays m (servesTwoOf (c .phase) (inForceOf (c .standings .two)) (c .rights .late)) (servesThreeOf (c .phase) (inForceOf (c .standings .three))) _ refl)
-            refl;
+        same = rw (talks-pays (c .meters .calling) (c .phase) (inForceOf (c .standings .two)) (c .rights .late) (inForceOf (c .standings .three)) h) refl;
         due = d;
       }
   carried-agrees Side.Called more h =
       record {
         requests = q;
-        same =
-            let m = c .meters .called in
-            rw (serves-two (c .phase) (inForceOf (c .standings .two)) false h, serves-three (c .phase) (inForceOf (c .standings .three)), passage-pays m (servesTwoOf (c .phase) (inForceOf (c .standings .two)) false) (servesThreeOf (c .phase) (inForceOf (c .standings .three))) _ refl)
-            refl;
+        same = rw (talks-pays (c .meters .called) (c .phase) (inForceOf (c .standings .two)) false (inForceOf (c .standings .three)) h) refl;
         due = d;
       }
 
@@ -424,26 +430,15 @@ module _ (c : Call) (q : Requests) (d : Due (c .phase) q (c .standings)) where
   unfolding inPhaseOf
   ends-agrees = record { requests = q; same = refl; due = not-due Phase.Ended q _ refl refl }
 
-  abbrev refilled : Account
-  refilled = holds a (refills (c .rights) (a .calling)) (refills (c .rights) (a .called))
-
-  ticks-agrees : (t : Bool) → Agrees (cond t refilled a) (metersOf c (refillsOf (c .meters) (c .rights) t))
+  ticks-agrees : (t : Bool) → Agrees (cond t (refilled a) a) (metersOf c (refillsOf (c .meters) (c .rights) t))
   unfolding metersOf refillsOf tickedMetersOf tickedOf refilledOf
   ticks-agrees true = record { requests = q; same = refl; due = d }
   ticks-agrees false = record { requests = q; same = refl; due = d }
 
-ticks-live : {A : Type 0} (p : Phase) (t : Bool) (x y : A) → cond (activeOf p && t) x y ≡ cond (liveOf p) (cond (servesThreeOf p t) x y) y
-ticks-live Phase.Fresh t x y = refl
-ticks-live Phase.Requested t x y = refl
-ticks-live Phase.Alerting t x y = refl
-ticks-live Phase.Active t x y = refl
-ticks-live Phase.Clearing t x y = refl
-ticks-live Phase.Ended t x y = refl
-
 -- one event
 module _ (c : Call) (q : Requests) (d : Due (c .phase) q (c .standings)) (s : soundOf c ≡ true) where
-  ticks-told : (l : List ℕ) → books (told c q) Event.Tick l ≡ cond (liveOf (c .phase)) (cond (servesThreeOf (c .phase) (inForceOf (c .standings .three))) (refilled c q d) (told c q)) (told c q)
-  ticks-told l = ticks-live (c .phase) (inForceOf (c .standings .three)) _ (told c q)
+  ticks-told : (l : List ℕ) → books (told c q) Event.Tick l ≡ cond (liveOf (c .phase)) (cond (servesThreeOf (c .phase) (inForceOf (c .standings .three))) (refilled (told c q)) (told c q)) (told c q)
+  ticks-told l = ticks-live (c .phase) (inForceOf (c .standings .three)) (refilled (told c q)) (told c q)
 
   step-told : (e : Event) (l : List ℕ) → Agrees (books (told c q) e l) (stepOf c e l .call)
   unfolding setupOf alertingOf connectOf informationOf facilityOf disconnectOf passedOnOf replyOf releaseCompleteOf endsOf tickOf passesTickOf runsOf notAnEventOf refusedOf
@@ -457,8 +452,7 @@ module _ (c : Call) (q : Requests) (d : Due (c .phase) q (c .standings)) (s : so
   step-told (Event.Disconnect side cause g) l = hears _ _ c _ s (kept c q d) _ _ (λ _ _. closes-agrees c q d _)
   step-told (Event.ReleaseComplete side) l = hears-in _ _ c _ s (kept c q d) _ (λ _. ends-agrees c q d)
   step-told Event.Tick l =
-      rw (ticks-told l)
-      (hears-in _ _ c _ s (kept c q d) _ (λ _. ticks-agrees c q d _))
+      rw (ticks-told l) (hears-in _ _ c _ s (kept c q d) _ (λ _. ticks-agrees c q d _))
   step-told Event.CallProceeding l = kept c q d
   step-told Event.CongestionControl l = kept c q d
 
