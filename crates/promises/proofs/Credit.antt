@@ -1,16 +1,16 @@
--- Each credit and each count is the one that the history defines.
-use Prim.Native.Nat.{ℕ, _+_, _-_, _<_}
+-- Each credit and each count is that of the account of the events.
+use Prim.Native.Nat.{ℕ}
 use mathlib.Core.List.{List, [], _∷_}
-use mathlib.Core.Bool.{Bool, true, false, cond, _&&_, _||_}
-use mathlib.Core.Logic.{_⊎_, inl, inr, ⊎-elim}
-use mathlib.Core.Path.{_≡_, refl, sym, ap, _∙_}
+use mathlib.Core.Bool.{Bool, true, false, cond, _&&_, _||_, not}
+use mathlib.Core.Logic.{_⊎_, inl, inr}
+use mathlib.Core.Path.{_≡_, refl, ap, _∙_}
 use native.Mathlib.Omega.{arith}
-use borrow.Author.Tests.{ltb-true}
-use lib.Dec.{ltb, eqb}
+use borrow.Author.Tests.{eqb-true}
+use lib.ListN.{length}
+use lib.Dec.{ltb, leb, eqb}
 use Rattle.meter.specs.declared.Meter.{Meter}
 use Rattle.meter.specs.declared.Passage.{Passage}
 use Rattle.service.specs.declared.cause.Cause.{Cause}
-use Rattle.service.specs.declared.element.Note.{Note}
 use Rattle.service.specs.declared.element.Seen.{Seen}
 use Rattle.service.specs.declared.rights.Rights.{Rights}
 use Rattle.service.specs.declared.standing.Answers.{Answers}
@@ -20,7 +20,9 @@ use Rattle.service.specs.declared.standing.Given.{Given}
 use Rattle.service.specs.declared.standing.Request.{Request}
 use Rattle.service.specs.declared.standing.Requests.{Requests}
 use Rattle.service.specs.declared.standing.Standing.{Standing}
+use Rattle.service.specs.declared.standing.Standings.{Standings}
 use Rattle.rules.specs.declared.answer.Answer.{Answer}
+use Rattle.rules.specs.declared.asking.Asking.{Asking}
 use Rattle.rules.specs.declared.asking.What.{What}
 use Rattle.rules.specs.declared.message.Kind.{Kind}
 use Rattle.rules.specs.declared.phase.Phase.{Phase}
@@ -30,453 +32,508 @@ use Rattle.call.specs.declared.Event.{Event}
 use Rattle.call.specs.declared.Meters.{Meters}
 use Rattle.call.specs.declared.reply.Reply.{Reply}
 use Rattle.meter.specs.Meter.{emptyOf, grantedOf, refilledOf, tickedOf, countedOf, spentOf, markedOf, underThreeOf, passageOf, afterOf}
-use Rattle.service.specs.Element.{seenOf, wholeOf}
-use Rattle.service.specs.Standing.{inForceOf, askedStandingOf, standingsOf, lacksOf, decidedOf, settledOf, settlesOf, failedOf, toldOf, tellsOf, declinedOf, declinesOf}
+use Rattle.service.specs.Cause.{firstOf}
+use Rattle.service.specs.Element.{wellFormedOf, seenOf, wholeOf}
+use Rattle.service.specs.Standing.{inForceOf, askedStandingOf, firstStandingOf, lackingOf, standingsOf, lacksOf, decidedOf, settledOf, settlesOf, failureOf, failedOf}
 use Rattle.rules.specs.Answer.{numberOf, takenOf}
-use Rattle.rules.specs.Message.{sayingOf}
-use Rattle.rules.specs.Phase.{talkingOf}
-use Rattle.rules.specs.Serving.{lateOf, servesTwoOf, servesThreeOf, passageAnswerOf}
+use Rattle.rules.specs.Asking.{asksOf, mayAskOf, toRequestOf, toAnswerOf}
+use Rattle.rules.specs.Phase.{requestedOf, connectableOf, talkingOf, activeOf, liveOf}
+use Rattle.rules.specs.Serving.{servesTwoOf, servesThreeOf, passageAnswerOf}
+use Rattle.rules.specs.Side.{peerOf}
 use Rattle.call.specs.Answering.{grantsOf, inForceAfterOf, answeredCallOf, goesOnOf, clearsOf, outcomeOf, alertingFatesOf, connectFatesOf, answeredOf, alertingOf, connectOf}
 use Rattle.call.specs.Disconnect.{closedCallOf, passedOnOf, disconnectOf, endsOf, releaseCompleteOf}
-use Rattle.call.specs.Facility.{facilityCallOf, passesFacilityOf, facilityOf}
-use Rattle.call.specs.Information.{meterOf, withMeterOf, metersOf, informationPassageOf, carriedOf, withElementOf, informationOf}
+use Rattle.call.specs.Facility.{facilityVerdictOf, facilityCallOf, passesFacilityOf, facilityOf}
+use Rattle.call.specs.Information.{metersOf, informationPassageOf, carriedOf, withElementOf, informationOf}
 use Rattle.call.specs.Reply.{barOf, refusedOf, heardOf, replyOf}
 use Rattle.call.specs.Setup.{setupPhaseOf, filledOf, proceedsOf, setupOf}
-use Rattle.call.specs.Sound.{freshCall, inPhaseOf, emptyMeters}
+use Rattle.call.specs.Sound.{soundOf, freshCall, noRights, noServices, inPhaseOf, emptyMeters}
 use Rattle.call.specs.Step.{notAnEventOf, stepOf}
 use Rattle.call.specs.Tick.{tickedMetersOf, refillsOf, runsOf, passesTickOf, tickOf}
-use Rattle.promises.specs.Numbers.{Live}
+use Rattle.promises.specs.Numbers.{Live, InRangeCall, other}
 use Rattle.promises.specs.Sound.{Offered, runOf}
-use Rattle.promises.specs.Credit.{loggedOf, historyOf, Purse, State, asked, ringing, connected, over, Account, purseOf, opens, grants, stateAfter, accepts, tells, answers, agrees, lateFrom, byCount, pays, paysFrom, spends, runs, refills, ticks, books, accountOf, unopened, counted, Balanced, Credit, Covered}
+use Rattle.promises.specs.Credit.{Purse, Account, moves, grants, clears, fails, comes, accepts, lacks, remaining, begins, alerts, connects, byCount, byCredit, pays, informs, may, agrees, refills, holds, books, accountOf, unopened, Balanced, Credit, Covered}
 use Rattle.promises.proofs.Decide.{never, by-cond}
 use Rattle.promises.proofs.Heard.{Bar, unsound, phase, range, Heard, through, barred, heard}
-use Rattle.promises.proofs.Conditions.{requested, connectable, talking, active, up, live}
+use Rattle.promises.proofs.Conditions.{requested, active, live, unsound as unsound-when}
+use Rattle.promises.proofs.Sound.{step-in}
 
--- what the account has of a record: its meters always, the rest while the call is live
-abbrev stateOf : Phase → State
-stateOf Phase.Fresh = over
-stateOf Phase.Requested = asked
-stateOf Phase.Alerting = ringing
-stateOf Phase.Active = connected
-stateOf Phase.Clearing = over
-stateOf Phase.Ended = over
+-- the account that a record tells; q: the requests that SETUP left
+abbrev purse : Meter → Purse
+purse m = record { credit = m .credit; count = m .count }
 
-record Same (m : Meter) (p : Purse) : Type 0 where
-  credit : p .credit ≡ m .credit
-  count : p .count ≡ m .count
+abbrev told : Call → Requests → Account
+told c q =
+    record {
+      rights = c .rights;
+      asked = q;
+      phase = c .phase;
+      two = inForceOf (c .standings .two);
+      three = inForceOf (c .standings .three);
+      asks = c .asking;
+      calling = purse (c .meters .calling);
+      called = purse (c .meters .called);
+    }
 
-record Terms (a : Account) (c : Call) : Type 0 where
-  rights : a .rights ≡ c .rights
-  state : a .state ≡ stateOf (c .phase)
-  two : a .two ≡ inForceOf (c .standings .two)
-  three : a .three ≡ inForceOf (c .standings .three)
+-- the request that waits for an answer
+abbrev dueOf : Standing → Request
+dueOf Standing.Unasked = Request.Unasked
+dueOf Standing.Preferred = Request.Preferred
+dueOf Standing.Required = Request.Required
+dueOf Standing.InForce = Request.Unasked
+dueOf Standing.Closed = Request.Unasked
 
-abbrev Purses : Account → Meters → Type 0
-Purses a m = (side : Side) → Same (meterOf m side) (purseOf a side)
+-- what SETUP left is what waits, until ALERTING or CONNECT answers it
+record Due (p : Phase) (q : Requests) (s : Standings) : Type 0 where
+  one : requestedOf p ≡ true → q .one ≡ dueOf (s .one)
+  two : requestedOf p ≡ true → q .two ≡ dueOf (s .two)
+  idle : requestedOf p ≡ true → inForceOf (s .two) ≡ false
+  three : connectableOf p ≡ true → q .three ≡ dueOf (s .three)
 
 record Agrees (a : Account) (c : Call) : Type 0 where
-  purses : Purses a (c .meters)
-  terms : Live (c .phase) → Terms a c
+  requests : Requests
+  same : a ≡ told c requests
+  due : Due (c .phase) requests (c .standings)
 
--- the account after a reply
-abbrev Booked : Account → Event → Reply → Type 0
-Booked a e r = Agrees (books a (loggedOf e r)) (r .call)
+not-due : (p : Phase) (q : Requests) (s : Standings) → requestedOf p ≡ false → connectableOf p ≡ false → Due p q s
+not-due p q s m n = record { one = λ h. never h m; two = λ h. never h m; idle = λ h. never h m; three = λ h. never h n }
 
 or-no : (b : Bool) → (b || false) ≡ b
 or-no true = refl
 or-no false = refl
 
-or-yes : (b : Bool) → (b || true) ≡ true
-or-yes true = refl
-or-yes false = refl
+and-yes : (b : Bool) → (b && true) ≡ b
+and-yes true = refl
+and-yes false = refl
 
-taken-zero : (v : Answer) → eqb (numberOf v) 0 ≡ takenOf v
-taken-zero Answer.Taken = refl
-taken-zero Answer.OutOfPhase = refl
-taken-zero Answer.NotAnEvent = refl
-taken-zero Answer.NoService = refl
-taken-zero Answer.Spent = refl
-taken-zero Answer.NotOpen = refl
-taken-zero Answer.NotGranted = refl
-taken-zero Answer.BadElement = refl
-taken-zero Answer.AskedRequired = refl
-taken-zero Answer.OutOfRange = refl
-taken-zero Answer.Unsound = refl
+or-or : (a b c : Bool) → ((a || b) || c) ≡ (a || (b || c))
+or-or true b c = refl
+or-or false b c = refl
 
-module _ (a : Account) (e : Event) (c : Call) (g : Agrees a c) where
-  barred-books : {x : Answer} → Bar x → Booked a e (refusedOf c x Note.Clear)
-  unfolding refusedOf
-  barred-books unsound = g
-  barred-books phase = g
-  barred-books range = g
+and-cond : {A : Type 0} (a b : Bool) (x y : A) → cond (a && b) x y ≡ cond a (cond b x y) y
+and-cond true b x y = refl
+and-cond false b x y = refl
 
-  heard-books : (allowed ranged : Bool) (r : Reply) → (allowed ≡ true → Booked a e r) → Booked a e (heardOf c (barOf c allowed ranged) r)
-  heard-books allowed ranged r f = view (heard c allowed ranged r)
-    where
-      view : {s : Reply} → Heard c allowed ranged r s → Booked a e s
-      view (through s h k) = f h
-      view (barred x) = barred-books x
+-- a sound record hears what its phase and the ranges allow
+module _ (a b : Account) (c : Call) (r : Reply) (s : soundOf c ≡ true) (g : Agrees a c) where
+  hears : (x y : Bool) → (x ≡ true → y ≡ true → Agrees b (r .call)) → Agrees (cond (x && y) b a) (heardOf c (barOf c x y) r .call)
+  unfolding heardOf barOf refusedOf
+  hears true true f = rw s (f refl refl)
+  hears true false f = rw s g
+  hears false y f = rw s g
+
+  hears-in : (x : Bool) → (x ≡ true → Agrees b (r .call)) → Agrees (cond x b a) (heardOf c (barOf c x true) r .call)
+  unfolding heardOf barOf refusedOf
+  hears-in true f = rw s (f refl)
+  hears-in false f = rw s g
 
 -- SETUP
-empty : (r : Rights) → Purses (opens r) emptyMeters
-unfolding emptyMeters emptyOf
-empty r Side.Calling = record { credit = refl; count = refl }
-empty r Side.Called = record { credit = refl; count = refl }
+fails-lacking : (q : Request) (b : Bool) → fails q b ≡ lackingOf q b
+fails-lacking Request.Unasked b = refl
+fails-lacking Request.Preferred b = refl
+fails-lacking Request.Required b = refl
 
-asked-not : (q : Request) (b : Bool) → false ≡ inForceOf (askedStandingOf q b)
-asked-not Request.Unasked b = refl
-asked-not Request.Preferred true = refl
-asked-not Request.Preferred false = refl
-asked-not Request.Required true = refl
-asked-not Request.Required false = refl
+lacks-same : (r : Rights) (q : Requests) → lacks r q ≡ lacksOf r q
+unfolding lacksOf
+lacks-same r q = rw (fails-lacking (q .one) _, fails-lacking (q .two) _, fails-lacking (q .three) _) refl
 
-setup-books : (a : Account) (reference : ℕ) (r : Rights) (q : Requests) (seen : Seen) (b : Bool) → lacksOf r q ≡ b → Booked a (Event.Setup reference r q) (proceedsOf reference r q seen)
-unfolding proceedsOf filledOf setupPhaseOf standingsOf
-setup-books a reference r q seen true h =
-    rw h (record { purses = empty r; terms = λ v. never (live Phase.Ended .back v) refl })
-setup-books a reference r q seen false h =
-    rw h
-    (record {
-      purses = empty r;
-      terms = λ _. record { rights = refl; state = refl; two = asked-not (q .two) _; three = asked-not (q .three) _ };
-    })
+asked-due : (q : Request) (b : Bool) → cond b q Request.Unasked ≡ dueOf (askedStandingOf q b)
+asked-due Request.Unasked true = refl
+asked-due Request.Unasked false = refl
+asked-due Request.Preferred true = refl
+asked-due Request.Preferred false = refl
+asked-due Request.Required true = refl
+asked-due Request.Required false = refl
 
--- services come into force as the message says
-told-force : (s : Standing) (g : Given) → (inForceOf s || accepts (toldOf (decidedOf s g))) ≡ inForceOf (settledOf s (decidedOf s g))
-told-force Standing.Unasked g = refl
-told-force Standing.Preferred Given.Accepted = refl
-told-force Standing.Preferred Given.Rejected = refl
-told-force Standing.Preferred Given.Silent = refl
-told-force Standing.Required Given.Accepted = refl
-told-force Standing.Required Given.Rejected = refl
-told-force Standing.Required Given.Silent = refl
-told-force Standing.InForce g = refl
-told-force Standing.Closed g = refl
+first-due : (q : Request) (seen : Seen) (b : Bool) → cond b q Request.Unasked ≡ dueOf (firstStandingOf q seen b)
+unfolding firstStandingOf
+first-due Request.Unasked seen true = by-cond (λ (s : Standing). Request.Unasked ≡ dueOf s) (wholeOf seen) (λ _. refl) (λ _. refl)
+first-due Request.Unasked seen false = by-cond (λ (s : Standing). Request.Unasked ≡ dueOf s) (wholeOf seen) (λ _. refl) (λ _. refl)
+first-due Request.Preferred seen b = asked-due Request.Preferred b
+first-due Request.Required seen b = asked-due Request.Required b
 
-told-due : (b : Bool) (s : Standing) (g : Given) → (inForceOf s || accepts (toldOf (cond b Fate.Kept (decidedOf s g)))) ≡ inForceOf (settledOf s (cond b Fate.Kept (decidedOf s g)))
-told-due true s g = or-no (inForceOf s)
-told-due false s g = told-force s g
+asked-idle : (q : Request) (b : Bool) → inForceOf (askedStandingOf q b) ≡ false
+asked-idle Request.Unasked b = refl
+asked-idle Request.Preferred true = refl
+asked-idle Request.Preferred false = refl
+asked-idle Request.Required true = refl
+asked-idle Request.Required false = refl
 
-not-declined : (f : Fate) → accepts (declinedOf f) ≡ false
-not-declined Fate.Kept = refl
-not-declined Fate.Accepted = refl
-not-declined Fate.Closed = refl
-not-declined (Fate.Failed n) = refl
+setup-agrees : (reference : ℕ) (r : Rights) (q : Requests) (seen : Seen) → Agrees (begins r (remaining r q) (cond (lacks r q) Phase.Ended Phase.Requested)) (proceedsOf reference r q seen .call)
+unfolding proceedsOf filledOf setupPhaseOf standingsOf emptyMeters emptyOf
+setup-agrees reference r q seen =
+    record {
+      requests = remaining r q;
+      same = rw (lacks-same r q, asked-idle (q .two) _, asked-idle (q .three) _) refl;
+      due =
+          record {
+            one = λ _. first-due (q .one) seen _;
+            two = λ _. asked-due (q .two) _;
+            idle = λ _. asked-idle (q .two) _;
+            three = λ _. asked-due (q .three) _;
+          };
+    }
 
-granted-same : (m : Meters) (b : ℕ) (side : Side) (p : Purse) → Same (meterOf m side) p → Same (meterOf (grantsOf m b) side) (grants true b p)
-unfolding grantsOf grantedOf
-granted-same m b Side.Calling p s = record { credit = refl; count = s .count }
-granted-same m b Side.Called p s = record { credit = refl; count = s .count }
+-- ALERTING and CONNECT: an answer that is due
+abbrev failed : Cause → Bool
+failed Cause.Absent = false
+failed (Cause.Value n) = true
 
-fate-same : (m : Meters) (b : ℕ) (f : Fate) (side : Side) (p : Purse) → Same (meterOf m side) p → Same (meterOf (inForceAfterOf m b f) side) (grants (accepts (toldOf f)) b p)
-fate-same m b Fate.Kept side p s = record { credit = s .credit; count = s .count }
-fate-same m b Fate.Accepted side p s = granted-same m b side p s
-fate-same m b Fate.Closed side p s = record { credit = s .credit; count = s .count }
-fate-same m b (Fate.Failed n) side p s = record { credit = s .credit; count = s .count }
+first-failed : (x y : Cause) → failed (firstOf x y) ≡ (failed x || failed y)
+first-failed Cause.Absent y = refl
+first-failed (Cause.Value n) y = refl
 
-fate-burst : (m : Meters) (b x : ℕ) (f : Fate) (side : Side) (p : Purse) → x ≡ b → Same (meterOf m side) p → Same (meterOf (inForceAfterOf m b f) side) (grants (accepts (toldOf f)) x p)
-fate-burst m b x f side p e s = rw e (fate-same m b f side p s)
+decided-failed : (s : Standing) (g : Given) → failed (failureOf (decidedOf s g)) ≡ fails (dueOf s) (accepts g)
+decided-failed Standing.Unasked g = refl
+decided-failed Standing.Preferred Given.Silent = refl
+decided-failed Standing.Preferred Given.Accepted = refl
+decided-failed Standing.Preferred Given.Rejected = refl
+decided-failed Standing.Required Given.Silent = refl
+decided-failed Standing.Required Given.Accepted = refl
+decided-failed Standing.Required Given.Rejected = refl
+decided-failed Standing.InForce g = refl
+decided-failed Standing.Closed g = refl
 
-what-burst : (m : Meters) (b x : ℕ) (side : Side) (p : Purse) → x ≡ b → Same (meterOf m side) p → Same (meterOf (grantsOf m b) side) (grants true x p)
-what-burst m b x side p e s = rw e (granted-same m b side p s)
+fates-failed : (f : Fates) → failed (failedOf f) ≡ (failed (failureOf (f .one)) || (failed (failureOf (f .two)) || failed (failureOf (f .three))))
+unfolding failedOf
+fates-failed f = rw (first-failed (failureOf (f .one)) _, first-failed (failureOf (f .two)) _) refl
 
-tells-purse : (a : Account) (state : State) (two three : Bool) (side : Side) → purseOf (tells a state two three) side ≡ grants three (a .rights .burst) (purseOf a side)
-tells-purse a state two three Side.Calling = refl
-tells-purse a state two three Side.Called = refl
+decided-comes : (s : Standing) (g : Given) → inForceOf s ≡ false → comes (dueOf s) (accepts g) ≡ inForceOf (settledOf s (decidedOf s g))
+decided-comes Standing.Unasked g n = refl
+decided-comes Standing.Preferred Given.Silent n = refl
+decided-comes Standing.Preferred Given.Accepted n = refl
+decided-comes Standing.Preferred Given.Rejected n = refl
+decided-comes Standing.Required Given.Silent n = refl
+decided-comes Standing.Required Given.Accepted n = refl
+decided-comes Standing.Required Given.Rejected n = refl
+decided-comes Standing.InForce g n = never refl n
+decided-comes Standing.Closed g n = refl
 
--- what a message does to a meter
-record Paid (t : Bool) (m : Meter) (p : Passage) : Type 0 where
-  passed : eqb (numberOf (passageAnswerOf p)) 0 ≡ true → (cond (t && ltb (m .count) 2) (m .credit) (m .credit - 1) ≡ afterOf m p .credit) × (cond (t && ltb (m .count) 2) (m .count + 1) (m .count) ≡ afterOf m p .count)
-  stopped : eqb (numberOf (passageAnswerOf p)) 0 ≡ false → (m .credit ≡ afterOf m p .credit) × (m .count ≡ afterOf m p .count)
+unanswered : (s : Standing) (b : Bool) → inForceOf s ≡ inForceOf (settledOf s (cond b Fate.Kept (decidedOf s Given.Silent)))
+unanswered s true = refl
+unanswered Standing.Unasked false = refl
+unanswered Standing.Preferred false = refl
+unanswered Standing.Required false = refl
+unanswered Standing.InForce false = refl
+unanswered Standing.Closed false = refl
 
-under-paid : (t : Bool) (m : Meter) → (t && ltb (m .count) 2) ≡ false → Paid t m (underThreeOf m)
-unfolding underThreeOf spentOf markedOf
-under-paid t m e =
-    by-cond (Paid t m) (ltb 0 (m .credit))
-    (λ _. record { passed = λ _. rw e (refl, refl); stopped = λ h. never refl h })
-    (λ _.
-    by-cond (Paid t m) (m .mark) (λ _. record { passed = λ h. never h refl; stopped = λ _. (refl, refl) })
-    (λ _. record { passed = λ h. never h refl; stopped = λ _. (refl, refl) }))
-
-passage-paid : (t h : Bool) (m : Meter) → Paid t m (passageOf m t h)
-unfolding passageOf countedOf
-passage-paid t h m =
-    by-cond (Paid t m) (t && ltb (m .count) 2)
-    (λ e. record { passed = λ _. rw e (refl, refl); stopped = λ x. never refl x })
-    (λ e.
-    by-cond (Paid t m) h (λ _. under-paid t m e)
-    (λ _.
-    by-cond (Paid t m) t (λ _. record { passed = λ x. never x refl; stopped = λ _. (refl, refl) })
-    (λ _. record { passed = λ x. never x refl; stopped = λ _. (refl, refl) })))
-
-count-serves : (p : Phase) (f l : Bool) → byCount (stateOf p) f l ≡ servesTwoOf p f l
-count-serves Phase.Fresh f l = refl
-count-serves Phase.Requested f l = refl
-count-serves Phase.Alerting f l = refl
-count-serves Phase.Active f l = refl
-count-serves Phase.Clearing f l = refl
-count-serves Phase.Ended f l = refl
-
-late-serves : (side : Side) (l : Bool) → lateFrom side l ≡ lateOf side l
-late-serves Side.Calling l = refl
-late-serves Side.Called l = refl
-
-three-serves : (p : Phase) (f : Bool) → runs (stateOf p) f ≡ servesThreeOf p f
-three-serves Phase.Fresh f = refl
-three-serves Phase.Requested f = refl
-three-serves Phase.Alerting f = refl
-three-serves Phase.Active f = refl
-three-serves Phase.Clearing f = refl
-three-serves Phase.Ended f = refl
-
-paid-same : (t b : Bool) (m n : Meter) (p : Purse) → b ≡ t → Same m p → (cond (t && ltb (m .count) 2) (m .credit) (m .credit - 1) ≡ n .credit) × (cond (t && ltb (m .count) 2) (m .count + 1) (m .count) ≡ n .count) → Same n (pays (b && ltb (p .count) 2) p)
-paid-same t b m n p e s x = record { credit = rw (e, s .credit, s .count) (x .0); count = rw (e, s .count) (x .1) }
-
-spends-purses : (a : Account) (m : Meters) (side : Side) (n : Meter) → Purses a m → Same n (paysFrom a side) → Purses (spends a side) (withMeterOf m side n)
-spends-purses a m Side.Calling n p s = λ x. at x
-  where
-    at : Purses (spends a Side.Calling) (withMeterOf m Side.Calling n)
-    at Side.Calling = s
-    at Side.Called = p Side.Called
-spends-purses a m Side.Called n p s = λ x. at x
-  where
-    at : Purses (spends a Side.Called) (withMeterOf m Side.Called n)
-    at Side.Calling = p Side.Calling
-    at Side.Called = s
-
-keeps-purses : (a : Account) (m : Meters) (side : Side) (n : Meter) → Purses a m → Same n (purseOf a side) → Purses a (withMeterOf m side n)
-keeps-purses a m Side.Calling n p s = λ x. at x
-  where
-    at : Purses a (withMeterOf m Side.Calling n)
-    at Side.Calling = s
-    at Side.Called = p Side.Called
-keeps-purses a m Side.Called n p s = λ x. at x
-  where
-    at : Purses a (withMeterOf m Side.Called n)
-    at Side.Calling = p Side.Calling
-    at Side.Called = s
-
-spends-terms : (a : Account) (c d : Call) (side : Side) → d .rights ≡ c .rights → d .phase ≡ c .phase → d .standings ≡ c .standings → Terms a c → Terms (spends a side) d
-spends-terms a c d Side.Calling r p s t = record { rights = t .rights ∙ sym r; state = t .state ∙ rw p refl; two = t .two ∙ rw s refl; three = t .three ∙ rw s refl }
-spends-terms a c d Side.Called r p s t = record { rights = t .rights ∙ sym r; state = t .state ∙ rw p refl; two = t .two ∙ rw s refl; three = t .three ∙ rw s refl }
-
--- a tick
-ticked-same : (m : Meter) (p : Purse) (r : Rights) → Same m p → Same (tickedOf m (r .burst) (r .refill)) (refills true r p)
-unfolding tickedOf refilledOf
-ticked-same m p r s = record { credit = rw (s .credit) refl; count = s .count }
-
-refills-same : (m : Meters) (side : Side) (p : Purse) (r x : Rights) (b now : Bool) → x ≡ r → b ≡ now → Same (meterOf m side) p → Same (meterOf (refillsOf m r now) side) (refills b x p)
-unfolding refillsOf tickedMetersOf
-refills-same m Side.Calling p r x b true e f s = rw (e, f) (ticked-same (m .calling) p r s)
-refills-same m Side.Called p r x b true e f s = rw (e, f) (ticked-same (m .called) p r s)
-refills-same m side p r x b false e f s = rw f (record { credit = s .credit; count = s .count })
-
-module _ (a : Account) (c : Call) (g : Agrees a c) (t : Terms a c) where
-  burst-same : a .rights .burst ≡ c .rights .burst
-  burst-same = ap (λ (r : Rights). r .burst) (t .rights)
-
-  -- the call is cleared or over
-  closes : (d : Call) → d .rights ≡ c .rights → d .meters ≡ c .meters → d .standings .two ≡ c .standings .two → d .standings .three ≡ c .standings .three → over ≡ stateOf (d .phase) → Agrees (tells a over false false) d
-  closes d r m x y z =
+-- CONNECT, the account once service 3 is answered
+module _ (r : Rights) (q : Requests) (two : Bool) (asks : Asking) (m : Meters) where
+  abbrev after : Bool → Meters → Account
+  after three n =
       record {
-        purses = λ side. rw (m, tells-purse a over false false side) (record { credit = g .purses side .credit; count = g .purses side .count });
-        terms = λ _. record { rights = t .rights ∙ sym r; state = z; two = or-no _ ∙ t .two ∙ rw x refl; three = or-no _ ∙ t .three ∙ rw y refl };
+        rights = r;
+        asked = q;
+        phase = Phase.Active;
+        two = two;
+        three = three;
+        asks = asks;
+        calling = purse (n .calling);
+        called = purse (n .called);
       }
 
-  -- ALERTING and CONNECT
-  abbrev Answered : Reply → Type 0
-  Answered r = Agrees (cond (eqb (numberOf (r .answer)) 0) (answers a (r .calling)) a) (r .call)
+  three-answered : (s : Standing) (g : Given) → cond (comes (dueOf s) (accepts g)) (grants (after (inForceOf s) m)) (after (inForceOf s) m) ≡ after (inForceOf (settledOf s (decidedOf s g))) (inForceAfterOf m (r .burst) (decidedOf s g))
+  unfolding grantsOf grantedOf
+  three-answered Standing.Unasked g = refl
+  three-answered Standing.Preferred Given.Silent = refl
+  three-answered Standing.Preferred Given.Accepted = refl
+  three-answered Standing.Preferred Given.Rejected = refl
+  three-answered Standing.Required Given.Silent = refl
+  three-answered Standing.Required Given.Accepted = refl
+  three-answered Standing.Required Given.Rejected = refl
+  three-answered Standing.InForce g = refl
+  three-answered Standing.Closed g = refl
 
-  goes : (d : Call) (f : Fate) (state : State) (two : Bool) → d .rights ≡ c .rights → d .meters ≡ inForceAfterOf (c .meters) (c .rights .burst) f → state ≡ stateOf (d .phase) → (a .two || two) ≡ inForceOf (d .standings .two) → (a .three || accepts (toldOf f)) ≡ inForceOf (d .standings .three) → Agrees (tells a state two (accepts (toldOf f))) d
-  goes d f state two r m z x y =
-      record {
-        purses = λ side. rw (m, tells-purse a state two (accepts (toldOf f)) side) (fate-burst (c .meters) (c .rights .burst) (a .rights .burst) f side (purseOf a side) burst-same (g .purses side));
-        terms = λ _. record { rights = t .rights ∙ sym r; state = z; two = x; three = y };
-      }
+  three-comes : (x : Request) (s : Standing) (g : Given) → x ≡ dueOf s → cond (comes x (accepts g)) (grants (after (inForceOf s) m)) (after (inForceOf s) m) ≡ after (inForceOf (settledOf s (decidedOf s g))) (inForceAfterOf m (r .burst) (decidedOf s g))
+  three-comes x s g e = rw e (three-answered s g)
 
-  outcome-books : (kind : Kind) (next : Phase) (f : Fates) (seen : Seen) (x : Cause) → stateAfter kind ≡ stateOf next → (inForceOf (c .standings .two) || accepts (toldOf (f .two))) ≡ inForceOf (settledOf (c .standings .two) (f .two)) → (inForceOf (c .standings .three) || accepts (toldOf (f .three))) ≡ inForceOf (settledOf (c .standings .three) (f .three)) → Answered (outcomeOf c kind next f seen x)
-  unfolding goesOnOf clearsOf answeredCallOf settlesOf tellsOf declinesOf sayingOf inPhaseOf
-  outcome-books kind next f seen Cause.Absent z x y =
-      goes _ (f .three) (stateAfter kind) (accepts (toldOf (f .two))) refl refl z (rw (t .two) x) (rw (t .three) y)
-  outcome-books kind next f seen (Cause.Value n) z x y =
-      rw (not-declined (f .two), not-declined (f .three)) (closes _ refl refl refl refl refl)
+-- USER INFORMATION
+nothing-formed : (l : List ℕ) → length l ≡ 0 → wellFormedOf l ≡ false
+unfolding wellFormedOf
+nothing-formed l h = rw h refl
 
-  alerting-books : (answered : Answers) (l : List ℕ) → Answered (answeredOf c Kind.Alerting Phase.Alerting (alertingFatesOf (c .standings) answered) l)
-  unfolding answeredOf alertingFatesOf
-  alerting-books answered l =
-      outcome-books Kind.Alerting Phase.Alerting (alertingFatesOf (c .standings) answered) _ (failedOf (alertingFatesOf (c .standings) answered)) refl (told-force (c .standings .two) (answered .two)) (or-no (inForceOf (c .standings .three)))
+whole-same : (l : List ℕ) (limit : ℕ) → (wellFormedOf l && leb (length l) limit) ≡ wholeOf (seenOf l limit)
+unfolding seenOf
+whole-same l limit =
+    let P : Seen → Type 0 = λ s. (wellFormedOf l && leb (length l) limit) ≡ wholeOf s in
+    by-cond P (eqb (length l) 0) (λ z. rw (nothing-formed l (eqb-true _ _ z)) refl)
+    (λ _.
+    by-cond P (wellFormedOf l) (λ w. by-cond P (leb (length l) limit) (λ t. rw (w, t) refl) (λ t. rw (w, t) refl)) (λ w. rw w refl))
 
-  connect-books : (came : Bool) (answered : Answers) (l : List ℕ) → Answered (answeredOf c Kind.Connect Phase.Active (connectFatesOf came (c .standings) answered) l)
-  unfolding answeredOf connectFatesOf
-  connect-books came answered l =
-      outcome-books Kind.Connect Phase.Active (connectFatesOf came (c .standings) answered) _ (failedOf (connectFatesOf came (c .standings) answered)) refl (told-due came (c .standings .two) Given.Silent) (told-force (c .standings .three) (answered .three))
+serves-two : (p : Phase) (f t : Bool) → talkingOf p ≡ true → (f && (not (activeOf p) || t)) ≡ servesTwoOf p f t
+serves-two Phase.Fresh f t h = never h refl
+serves-two Phase.Requested f t h = never h refl
+serves-two Phase.Alerting f t h = and-yes f
+serves-two Phase.Active f t h = refl
+serves-two Phase.Clearing f t h = never h refl
+serves-two Phase.Ended f t h = never h refl
 
-  -- USER INFORMATION
-  counted-same : (side : Side) → byCount (a .state) (a .two) (lateFrom side (a .rights .late)) ≡ servesTwoOf (c .phase) (inForceOf (c .standings .two)) (lateOf side (c .rights .late))
-  counted-same side =
-      let late : a .rights .late ≡ c .rights .late = ap (λ (r : Rights). r .late) (t .rights) in
-      rw (t .state, t .two, late, late-serves side (c .rights .late)) (count-serves (c .phase) _ _)
+serves-three : (p : Phase) (f : Bool) → (activeOf p && f) ≡ servesThreeOf p f
+serves-three Phase.Fresh f = refl
+serves-three Phase.Requested f = refl
+serves-three Phase.Alerting f = refl
+serves-three Phase.Active f = refl
+serves-three Phase.Clearing f = refl
+serves-three Phase.Ended f = refl
 
-  carried-books : (side : Side) (more : Bool) → Booked a (Event.Information side more) (carriedOf c side more (informationPassageOf c side))
+module _ (m : Meter) where
+  under-pays : (b : Bool) → ltb 0 (m .credit) ≡ b → pays false b (purse m) ≡ purse (afterOf m (underThreeOf m))
+  unfolding underThreeOf spentOf markedOf
+  under-pays true e = rw e refl
+  under-pays false e = rw e (by-cond (λ p. purse m ≡ purse (afterOf m p)) (m .mark) (λ _. refl) (λ _. refl))
+
+  passage-pays : (two three b : Bool) → (two && ltb (m .count) 2) ≡ b → pays b (three && ltb 0 (m .credit)) (purse m) ≡ purse (afterOf m (passageOf m two three))
+  unfolding passageOf countedOf
+  passage-pays two three true e = rw e refl
+  passage-pays two true false e = rw e (under-pays _ refl)
+  passage-pays two false false e = rw e (by-cond (λ p. purse m ≡ purse (afterOf m p)) two (λ _. refl) (λ _. refl))
+
+  -- with services 2 and 3 in force or not, and late delivery or not
+  talks-pays : (p : Phase) (two t three : Bool) → talkingOf p ≡ true → pays ((two && (not (activeOf p) || t)) && ltb (m .count) 2) ((activeOf p && three) && ltb 0 (m .credit)) (purse m) ≡ purse (afterOf m (passageOf m (servesTwoOf p two t) (servesThreeOf p three)))
+  talks-pays p two t three h = rw (serves-two p two t h, serves-three p three) (passage-pays (servesTwoOf p two t) (servesThreeOf p three) _ refl)
+
+-- FACILITY
+may-same : (r : Rights) (side : Side) → may r side ≡ mayAskOf r side
+may-same r Side.Calling = refl
+may-same r Side.Called = refl
+
+other-same : (side : Side) → other side ≡ peerOf side
+other-same Side.Calling = refl
+other-same Side.Called = refl
+
+request-taken : (may shut : Bool) → (may && not shut) ≡ takenOf (toRequestOf may shut)
+unfolding toRequestOf
+request-taken true true = refl
+request-taken true false = refl
+request-taken false shut = refl
+
+answer-taken : (three asks : Bool) → (not three && asks) ≡ takenOf (toAnswerOf (three || not asks))
+unfolding toAnswerOf
+answer-taken true asks = refl
+answer-taken false true = refl
+answer-taken false false = refl
+
+-- the tick
+abbrev refilled : Account → Account
+refilled a = holds a (refills (a .rights) (a .calling)) (refills (a .rights) (a .called))
+
+ticks-live : {A : Type 0} (p : Phase) (t : Bool) (x y : A) → cond (activeOf p && t) x y ≡ cond (liveOf p) (cond (servesThreeOf p t) x y) y
+ticks-live Phase.Fresh t x y = refl
+ticks-live Phase.Requested t x y = refl
+ticks-live Phase.Alerting t x y = refl
+ticks-live Phase.Active t x y = refl
+ticks-live Phase.Clearing t x y = refl
+ticks-live Phase.Ended t x y = refl
+
+-- the events that a sound record takes
+module _ (c : Call) (q : Requests) (d : Due (c .phase) q (c .standings)) where
+  abbrev a : Account
+  a = told c q
+
+  kept : Agrees a c
+  kept = record { requests = q; same = refl; due = d }
+
+  outcome-agrees : (kind : Kind) (next : Phase) (f : Fates) (seen : Seen) (x : Cause) (t : Bool) (b : Account) → t ≡ failed x → Agrees b (answeredCallOf c next f) → Agrees (cond t (clears a) b) (outcomeOf c kind next f seen x .call)
+  unfolding goesOnOf clearsOf inPhaseOf
+  outcome-agrees kind next f seen Cause.Absent t b e g = rw e g
+  outcome-agrees kind next f seen (Cause.Value n) t b e g =
+      rw e (record { requests = q; same = refl; due = not-due Phase.Clearing q _ refl refl })
+
+  alerts-failed : (g : Answers) → requestedOf (c .phase) ≡ true → (fails (q .one) (accepts (g .one)) || fails (q .two) (accepts (g .two))) ≡ failed (failedOf (alertingFatesOf (c .standings) g))
+  unfolding alertingFatesOf
+  alerts-failed g h =
+      rw (fates-failed (alertingFatesOf (c .standings) g), decided-failed (c .standings .one) (g .one), decided-failed (c .standings .two) (g .two), d .one h, d .two h, or-no) refl
+
+  alerts-agrees : (g : Answers) (l : List ℕ) → requestedOf (c .phase) ≡ true → Agrees (alerts a g) (answeredOf c Kind.Alerting Phase.Alerting (alertingFatesOf (c .standings) g) l .call)
+  unfolding answeredOf alertingFatesOf answeredCallOf settlesOf
+  alerts-agrees g l h =
+      outcome-agrees Kind.Alerting Phase.Alerting (alertingFatesOf (c .standings) g) _ (failedOf (alertingFatesOf (c .standings) g)) _
+      (moves a Phase.Alerting (comes (q .two) (accepts (g .two))) (inForceOf (c .standings .three))) (alerts-failed g h)
+      (record {
+        requests = q;
+        same = rw (d .two h, decided-comes (c .standings .two) (g .two) (d .idle h)) refl;
+        due =
+            record {
+              one = λ x. never x refl;
+              two = λ x. never x refl;
+              idle = λ x. never x refl;
+              three = λ _. d .three (rw (requested (c .phase) .so h) refl);
+            };
+      })
+
+  connects-failed : (g : Answers) (b : Bool) → requestedOf (c .phase) ≡ b → connectableOf (c .phase) ≡ true → ((b && (fails (q .one) (accepts (g .one)) || fails (q .two) false)) || fails (q .three) (accepts (g .three))) ≡ failed (failedOf (connectFatesOf (not b) (c .standings) g))
+  unfolding connectFatesOf
+  connects-failed g true e h =
+      rw (fates-failed (connectFatesOf false (c .standings) g), decided-failed (c .standings .one) (g .one), decided-failed (c .standings .two) Given.Silent, decided-failed (c .standings .three) (g .three), d .one e, d .two e, d .three h)
+      (or-or (fails (dueOf (c .standings .one)) (accepts (g .one))) (fails (dueOf (c .standings .two)) false) (fails (dueOf (c .standings .three)) (accepts (g .three))))
+  connects-failed g false e h =
+      rw (fates-failed (connectFatesOf true (c .standings) g), decided-failed (c .standings .three) (g .three), d .three h) refl
+
+  connects-agrees : (g : Answers) (l : List ℕ) → connectableOf (c .phase) ≡ true → Agrees (connects a g) (answeredOf c Kind.Connect Phase.Active (connectFatesOf (not (requestedOf (c .phase))) (c .standings) g) l .call)
+  unfolding answeredOf connectFatesOf answeredCallOf settlesOf
+  connects-agrees g l h =
+      let s = c .standings in
+      let f = connectFatesOf (not (requestedOf (c .phase))) s g in
+      outcome-agrees Kind.Connect Phase.Active f _ (failedOf f) _ _ (connects-failed g _ refl h)
+      (record {
+        requests = q;
+        same =
+            rw (← (unanswered (s .two) (not (requestedOf (c .phase)))))
+            (three-comes (c .rights) q (inForceOf (s .two)) (c .asking) (c .meters) (q .three) (s .three) (g .three) (d .three h));
+        due = not-due Phase.Active q _ refl refl;
+      })
+
+  carried-agrees : (side : Side) (more : Bool) → talkingOf (c .phase) ≡ true → Agrees (informs a side) (carriedOf c side more (informationPassageOf c side) .call)
   unfolding carriedOf replyOf metersOf informationPassageOf
-  carried-books side more =
-      let m = meterOf (c .meters) side in
-      let two = servesTwoOf (c .phase) (inForceOf (c .standings .two)) (lateOf side (c .rights .late)) in
-      let p = passageOf m two (servesThreeOf (c .phase) (inForceOf (c .standings .three))) in
-      let paid = passage-paid two (servesThreeOf (c .phase) (inForceOf (c .standings .three))) m in
-      by-cond (λ (b : Account). Agrees b (metersOf c (withMeterOf (c .meters) side (afterOf m p)))) (eqb (numberOf (passageAnswerOf p)) 0)
-      (λ x.
+  carried-agrees Side.Calling more h =
       record {
-        purses = spends-purses a (c .meters) side _ (g .purses) (paid-same two _ m _ (purseOf a side) (counted-same side) (g .purses side) (paid .passed x));
-        terms = λ _. spends-terms a c _ side refl refl refl t;
-      })
-      (λ x.
+        requests = q;
+        same = rw (talks-pays (c .meters .calling) (c .phase) (inForceOf (c .standings .two)) (c .rights .late) (inForceOf (c .standings .three)) h) refl;
+        due = d;
+      }
+  carried-agrees Side.Called more h =
       record {
-        purses = keeps-purses a (c .meters) side _ (g .purses) (record { credit = g .purses side .credit ∙ paid .stopped x .0; count = g .purses side .count ∙ paid .stopped x .1 });
-        terms = λ _. record { rights = t .rights; state = t .state; two = t .two; three = t .three };
-      })
+        requests = q;
+        same = rw (talks-pays (c .meters .called) (c .phase) (inForceOf (c .standings .two)) false (inForceOf (c .standings .three)) h) refl;
+        due = d;
+      }
 
-  information-books : (side : Side) (more : Bool) (seen : Seen) → Booked a (Event.Information side more) (withElementOf c seen (carriedOf c side more (informationPassageOf c side)))
+  element-agrees : (t : Bool) (b : Account) (seen : Seen) (r : Reply) → t ≡ wholeOf seen → Agrees b (r .call) → Agrees (cond t b a) (withElementOf c seen r .call)
   unfolding withElementOf refusedOf
-  information-books side more seen =
-      by-cond (λ (r : Reply). Booked a (Event.Information side more) r) (wholeOf seen) (λ _. carried-books side more) (λ _. g)
+  element-agrees true b seen r e g = rw (← e) g
+  element-agrees false b seen r e g = rw (← e) kept
 
-  -- the tick
-  ticks-purse : (side : Side) → purseOf (ticks a) side ≡ refills (runs (a .state) (a .three)) (a .rights) (purseOf a side)
-  ticks-purse Side.Calling = refl
-  ticks-purse Side.Called = refl
+  either : (t u : Bool) (b : Account) (x : Call) → t ≡ u → Agrees b x → Agrees (cond t b a) (cond u x c)
+  either true u b x e g = rw (← e) g
+  either false u b x e g = rw (← e) kept
 
-  runs-same : runs (a .state) (a .three) ≡ runsOf c
-  unfolding runsOf
-  runs-same = rw (t .state, t .three) (three-serves (c .phase) _)
+  facility-agrees : (side : Side) (what : What) → activeOf (c .phase) ≡ true → Agrees (agrees a side what) (passesFacilityOf c side what (facilityVerdictOf c side what) .call)
+  unfolding passesFacilityOf replyOf facilityVerdictOf facilityCallOf grantsOf grantedOf
+  facility-agrees side What.Preferred h =
+      let shut = inForceOf (c .standings .three) || asksOf (c .asking) side in
+      either _ _ _ (facilityCallOf c side What.Preferred) (ap (λ b. b && not shut) (may-same (c .rights) side) ∙ request-taken (mayAskOf (c .rights) side) shut)
+      (record { requests = q; same = refl; due = d })
+  facility-agrees side What.Accept h =
+      rw (other-same side)
+      (either _ _ _ (facilityCallOf c side What.Accept) (answer-taken (inForceOf (c .standings .three)) (asksOf (c .asking) (peerOf side)))
+      (record { requests = q; same = refl; due = let e = active (c .phase) .so h in not-due (c .phase) q _ (rw e refl) (rw e refl) }))
+  facility-agrees side What.Reject h =
+      rw (other-same side)
+      (either _ _ _ (facilityCallOf c side What.Reject) (answer-taken (inForceOf (c .standings .three)) (asksOf (c .asking) (peerOf side)))
+      (record { requests = q; same = refl; due = d }))
+  facility-agrees side What.Required h = kept
 
-  tick-books : Booked a Event.Tick (passesTickOf c)
-  unfolding passesTickOf metersOf
-  tick-books =
-      record {
-        purses = λ side. rw (ticks-purse side) (refills-same (c .meters) side (purseOf a side) (c .rights) (a .rights) _ (runsOf c) (t .rights) runs-same (g .purses side));
-        terms = λ _. record { rights = t .rights; state = t .state; two = t .two; three = t .three };
-      }
+  closes-agrees : (one : Standing) → Agrees (clears a) (closedCallOf c one)
+  unfolding closedCallOf
+  closes-agrees one = record { requests = q; same = refl; due = not-due Phase.Clearing q _ refl refl }
 
-  -- FACILITY
-  agreed : (side : Side) (what : What) → c .phase ≡ Phase.Active → Agrees (agrees a what) (facilityCallOf c side what)
-  unfolding facilityCallOf
-  agreed side What.Preferred e = record { purses = g .purses; terms = λ _. record { rights = t .rights; state = t .state; two = t .two; three = t .three } }
-  agreed side What.Accept e =
-      record {
-        purses = λ x. rw (tells-purse a connected false true x) (what-burst (c .meters) (c .rights .burst) (a .rights .burst) x (purseOf a x) burst-same (g .purses x));
-        terms = λ _. record { rights = t .rights; state = rw e refl; two = or-no _ ∙ t .two; three = or-yes (a .three) };
-      }
-  agreed side What.Reject e = record { purses = g .purses; terms = λ _. record { rights = t .rights; state = t .state; two = t .two; three = t .three } }
-  agreed side What.Required e = record { purses = g .purses; terms = λ _. record { rights = t .rights; state = t .state; two = t .two; three = t .three } }
+  ends-agrees : Agrees (moves a Phase.Ended (a .two) (a .three)) (inPhaseOf c Phase.Ended)
+  unfolding inPhaseOf
+  ends-agrees = record { requests = q; same = refl; due = not-due Phase.Ended q _ refl refl }
 
-  facility-by : (side : Side) (what : What) (b : Bool) → c .phase ≡ Phase.Active → Agrees (cond b (agrees a what) a) (cond b (facilityCallOf c side what) c)
-  facility-by side what true e = agreed side what e
-  facility-by side what false e = g
+  ticks-agrees : (t : Bool) → Agrees (cond t (refilled a) a) (metersOf c (refillsOf (c .meters) (c .rights) t))
+  unfolding metersOf refillsOf tickedMetersOf tickedOf refilledOf
+  ticks-agrees true = record { requests = q; same = refl; due = d }
+  ticks-agrees false = record { requests = q; same = refl; due = d }
 
-  facility-books : (side : Side) (what : What) (v : Answer) → c .phase ≡ Phase.Active → Booked a (Event.Facility side what) (passesFacilityOf c side what v)
-  unfolding passesFacilityOf replyOf
-  facility-books side what v e = rw (taken-zero v) (facility-by side what (takenOf v) e)
+-- one event
+module _ (c : Call) (q : Requests) (d : Due (c .phase) q (c .standings)) (s : soundOf c ≡ true) where
+  ticks-told : (l : List ℕ) → books (told c q) Event.Tick l ≡ cond (liveOf (c .phase)) (cond (servesThreeOf (c .phase) (inForceOf (c .standings .three))) (refilled (told c q)) (told c q)) (told c q)
+  ticks-told l = ticks-live (c .phase) (inForceOf (c .standings .three)) (refilled (told c q)) (told c q)
 
-  -- DISCONNECT and RELEASE COMPLETE
-  disconnect-books : (side : Side) (cause : ℕ) (said x : Answers) (seen : Seen) → Booked a (Event.Disconnect side cause said) (passedOnOf c side cause x seen)
-  unfolding passedOnOf closedCallOf replyOf
-  disconnect-books side cause said x seen = closes _ refl refl refl refl refl
+  step-told : (e : Event) (l : List ℕ) → Agrees (books (told c q) e l) (stepOf c e l .call)
+  unfolding setupOf alertingOf connectOf informationOf facilityOf disconnectOf passedOnOf replyOf releaseCompleteOf endsOf tickOf passesTickOf runsOf notAnEventOf refusedOf
+  step-told (Event.Setup reference r q') l = hears _ _ c _ s (kept c q d) _ _ (λ _ _. setup-agrees reference r q' _)
+  step-told (Event.Alerting g) l = hears-in _ _ c _ s (kept c q d) _ (λ h. alerts-agrees c q d g l h)
+  step-told (Event.Connect g) l = hears-in _ _ c _ s (kept c q d) _ (λ h. connects-agrees c q d g l h)
+  step-told (Event.Information side more) l =
+      rw (and-cond (talkingOf (c .phase)) (wellFormedOf l && leb (length l) (c .rights .limit)) (informs (told c q) side) (told c q))
+      (hears-in _ _ c _ s (kept c q d) _ (λ h. element-agrees c q d _ _ _ _ (whole-same l (c .rights .limit)) (carried-agrees c q d side more h)))
+  step-told (Event.Facility side what) l = hears-in _ _ c _ s (kept c q d) _ (λ h. facility-agrees c q d side what h)
+  step-told (Event.Disconnect side cause g) l = hears _ _ c _ s (kept c q d) _ _ (λ _ _. closes-agrees c q d _)
+  step-told (Event.ReleaseComplete side) l = hears-in _ _ c _ s (kept c q d) _ (λ _. ends-agrees c q d)
+  step-told Event.Tick l =
+      rw (ticks-told l) (hears-in _ _ c _ s (kept c q d) _ (λ _. ticks-agrees c q d _))
+  step-told Event.CallProceeding l = kept c q d
+  step-told Event.CongestionControl l = kept c q d
 
-  ends-books : (side : Side) → Booked a (Event.ReleaseComplete side) (endsOf c side)
-  unfolding endsOf inPhaseOf replyOf
-  ends-books side = closes _ refl refl refl refl refl
+sound-by : (c : Call) (b : Bool) → soundOf c ≡ b → (Live (c .phase) → InRangeCall c) → soundOf c ≡ true
+sound-by c true e w = e
+sound-by c false e w = let u = unsound-when c .so e in absurd (u .1 (w (u .0)))
 
-either-same : (a : Account) (b : Bool) → cond b a a ≡ a
-either-same a true = refl
-either-same a false = refl
+step-agrees : (a : Account) (c : Call) (e : Event) (l : List ℕ) → Agrees a c → (Live (c .phase) → InRangeCall c) → Agrees (books a e l) (stepOf c e l .call)
+step-agrees a c e l g w = rw (g .same) (step-told c (g .requests) (g .due) (sound-by c _ refl w) e l)
 
--- one event, then runs
-step-books : (a : Account) (c : Call) (e : Event) (l : List ℕ) → Agrees a c → Booked a e (stepOf c e l)
-unfolding setupOf alertingOf connectOf informationOf facilityOf disconnectOf releaseCompleteOf tickOf notAnEventOf refusedOf
-step-books a c (Event.Setup reference rights q) l g = heard-books a (Event.Setup reference rights q) c g _ _ _ (λ _. setup-books a reference rights q _ _ refl)
-step-books a c (Event.Alerting answered) l g =
-    heard-books a (Event.Alerting answered) c g _ _ _ (λ h. alerting-books a c g (g .terms (inl (inl (requested (c .phase) .so h)))) answered l)
-step-books a c (Event.Connect answered) l g =
-    heard-books a (Event.Connect answered) c g _ _ _
-    (λ h. connect-books a c g (g .terms (inl (⊎-elim (λ e. inl e) (λ e. inr (inl e)) (connectable (c .phase) .so h)))) _ answered l)
-step-books a c (Event.Information side more) l g =
-    heard-books a (Event.Information side more) c g _ _ _ (λ h. information-books a c g (g .terms (inl (inr (talking (c .phase) .so h)))) side more _)
-step-books a c (Event.Facility side what) l g =
-    heard-books a (Event.Facility side what) c g _ _ _
-    (λ h.
-    let e = active (c .phase) .so h in
-    facility-books a c g (g .terms (inl (inr (inr e)))) side what _ e)
-step-books a c (Event.Disconnect side cause said) l g =
-    heard-books a (Event.Disconnect side cause said) c g _ _ _ (λ h. disconnect-books a c g (g .terms (inl (up (c .phase) .so h))) side cause said _ _)
-step-books a c (Event.ReleaseComplete side) l g =
-    heard-books a (Event.ReleaseComplete side) c g _ _ _ (λ h. ends-books a c g (g .terms (live (c .phase) .so h)) side)
-step-books a c Event.Tick l g = heard-books a Event.Tick c g _ _ _ (λ h. tick-books a c g (g .terms (live (c .phase) .so h)))
-step-books a c Event.CallProceeding l g = rw (either-same a _) g
-step-books a c Event.CongestionControl l g = rw (either-same a _) g
+-- runs
+run-agrees : (a : Account) (c : Call) (os : List Offered) → Agrees a c → (Live (c .phase) → InRangeCall c) → Agrees (accountOf a os) (runOf c os)
+run-agrees a c [] g w = g
+run-agrees a c (o ∷ os) g w = run-agrees _ _ os (step-agrees a c (o .event) (o .element) g w) (step-in c (o .event) (o .element) w)
 
-run-books : (a : Account) (c : Call) (os : List Offered) → Agrees a c → Agrees (accountOf a (historyOf c os)) (runOf c os)
-run-books a c [] g = g
-run-books a c (o ∷ os) g = run-books _ _ os (step-books a c (o .event) (o .element) g)
-
-fresh-books : Agrees unopened freshCall
-unfolding freshCall
-fresh-books = record { purses = empty _; terms = λ v. never (live Phase.Fresh .back v) refl }
+after-run : (os : List Offered) → Agrees (accountOf unopened os) (runOf freshCall os)
+unfolding freshCall noRights noServices emptyMeters emptyOf
+after-run os =
+    run-agrees unopened freshCall os (record { requests = unopened .asked; same = refl; due = not-due Phase.Fresh _ _ refl refl })
+    (λ v. never (live Phase.Fresh .back v) refl)
 
 balanced : (a : Account) (c : Call) (side : Side) → Agrees a c → Balanced c a side
-balanced a c Side.Calling g = record { credit = sym (g .purses Side.Calling .credit); count = sym (g .purses Side.Calling .count) }
-balanced a c Side.Called g = record { credit = sym (g .purses Side.Called .credit); count = sym (g .purses Side.Called .count) }
+balanced a c Side.Calling g = rw (g .same) (record { credit = refl; count = refl })
+balanced a c Side.Called g = rw (g .same) (record { credit = refl; count = refl })
 
 pub credit : Credit
-credit os side = balanced _ _ side (run-books unopened freshCall os fresh-books)
+credit os side = balanced _ _ side (after-run os)
 
 -- a message that is answered 0
-abbrev Serves : Bool → Meter → Answer → Type 0
-Serves t m v = numberOf v ≡ 0 → ((t && ltb (m .count) 2) ≡ true) ⊎ (0 < m .credit)
+abbrev Paid : Bool → Bool → Meter → Answer → Type 0
+Paid two three m v = numberOf v ≡ 0 → ((two && ltb (m .count) 2) ≡ true) ⊎ ((three && ltb 0 (m .credit)) ≡ true)
 
-under-serves : (t : Bool) (m : Meter) → Serves t m (passageAnswerOf (underThreeOf m))
+under-paid : (two : Bool) (m : Meter) → Paid two true m (passageAnswerOf (underThreeOf m))
 unfolding underThreeOf
-under-serves t m =
-    by-cond (λ p. Serves t m (passageAnswerOf p)) (ltb 0 (m .credit)) (λ h _. inr (ltb-true _ _ h))
-    (λ _.
-    by-cond (λ p. Serves t m (passageAnswerOf p)) (m .mark) (λ _ z. absurd (omega arith)) (λ _ z. absurd (omega arith)))
+under-paid two m =
+    let P : Passage → Type 0 = λ p. Paid two true m (passageAnswerOf p) in
+    by-cond P (ltb 0 (m .credit)) (λ h _. inr h)
+    (λ _. by-cond P (m .mark) (λ _ z. absurd (omega arith)) (λ _ z. absurd (omega arith)))
 
-passage-serves : (t h : Bool) (m : Meter) → Serves t m (passageAnswerOf (passageOf m t h))
+passage-paid : (two three : Bool) (m : Meter) → Paid two three m (passageAnswerOf (passageOf m two three))
 unfolding passageOf
-passage-serves t h m =
-    by-cond (λ p. Serves t m (passageAnswerOf p)) (t && ltb (m .count) 2) (λ e _. inl e)
+passage-paid two three m =
+    let P : Bool → Passage → Type 0 = λ b p. Paid two b m (passageAnswerOf p) in
+    by-cond (P three) (two && ltb (m .count) 2) (λ e _. inl e)
     (λ _.
-    by-cond (λ p. Serves t m (passageAnswerOf p)) h (λ _. under-serves t m)
-    (λ _. by-cond (λ p. Serves t m (passageAnswerOf p)) t (λ _ z. absurd (omega arith)) (λ _ z. absurd (omega arith))))
+    elim three as (λ b. P b (cond b (underThreeOf m) (cond two Passage.Spent Passage.Unserved))) [
+      | true ↦ under-paid two m
+      | false ↦ by-cond (P false) two (λ _ z. absurd (omega arith)) (λ _ z. absurd (omega arith))
+    ])
 
-abbrev servesTwo : Call → Side → Bool
-servesTwo c side = servesTwoOf (c .phase) (inForceOf (c .standings .two)) (lateOf side (c .rights .late))
+abbrev Covers : Call → Requests → Side → Reply → Type 0
+Covers c q side r = numberOf (r .answer) ≡ 0 → (byCount (told c q) side ≡ true) ⊎ (byCredit (told c q) side ≡ true)
 
-module _ (c : Call) (side : Side) (more : Bool) where
-  element-serves : (seen : Seen) → Serves (servesTwo c side) (meterOf (c .meters) side) (withElementOf c seen (carriedOf c side more (informationPassageOf c side)) .answer)
-  unfolding withElementOf carriedOf replyOf refusedOf informationPassageOf
-  element-serves seen =
-      by-cond (λ (r : Reply). Serves (servesTwo c side) (meterOf (c .meters) side) (r .answer)) (wholeOf seen)
-      (λ _. passage-serves (servesTwo c side) _ (meterOf (c .meters) side)) (λ _ z. absurd (omega arith))
+module _ (c : Call) (q : Requests) (more : Bool) where
+  carried-covers : (side : Side) → talkingOf (c .phase) ≡ true → Covers c q side (carriedOf c side more (informationPassageOf c side))
+  unfolding carriedOf replyOf informationPassageOf
+  carried-covers Side.Calling h =
+      rw (serves-two (c .phase) (inForceOf (c .standings .two)) (c .rights .late) h, serves-three (c .phase) (inForceOf (c .standings .three)))
+      (passage-paid _ _ (c .meters .calling))
+  carried-covers Side.Called h =
+      rw (serves-two (c .phase) (inForceOf (c .standings .two)) false h, serves-three (c .phase) (inForceOf (c .standings .three)))
+      (passage-paid _ _ (c .meters .called))
 
-  bar-serves : {x : Answer} → Bar x → numberOf x ≡ 0 → ⊥
-  bar-serves unsound z = omega arith
-  bar-serves phase z = omega arith
-  bar-serves range z = omega arith
+  element-covers : (side : Side) (seen : Seen) → talkingOf (c .phase) ≡ true → Covers c q side (withElementOf c seen (carriedOf c side more (informationPassageOf c side)))
+  unfolding withElementOf refusedOf
+  element-covers side seen h = by-cond (Covers c q side) (wholeOf seen) (λ _. carried-covers side h) (λ _ z. absurd (omega arith))
 
-  information-serves : (l : List ℕ) → numberOf (informationOf c side more l .answer) ≡ 0 → Live (c .phase) × (((servesTwo c side && ltb (meterOf (c .meters) side .count) 2) ≡ true) ⊎ (0 < meterOf (c .meters) side .credit))
+  bar-covers : {x : Answer} → Bar x → numberOf x ≡ 0 → ⊥
+  bar-covers unsound z = omega arith
+  bar-covers phase z = omega arith
+  bar-covers range z = omega arith
+
+  covers : (side : Side) (l : List ℕ) → Covers c q side (informationOf c side more l)
   unfolding informationOf refusedOf
-  information-serves l = view (heard c _ _ _)
+  covers side l = view (heard c _ _ _)
     where
-      view : {s : Reply} → Heard c (talkingOf (c .phase)) true (withElementOf c (seenOf l (c .rights .limit)) (carriedOf c side more (informationPassageOf c side))) s → numberOf (s .answer) ≡ 0 → Live (c .phase) × (((servesTwo c side && ltb (meterOf (c .meters) side .count) 2) ≡ true) ⊎ (0 < meterOf (c .meters) side .credit))
-      view (through s h k) z = (inl (inr (talking (c .phase) .so h)), element-serves (seenOf l (c .rights .limit)) z)
-      view (barred x) z = absurd (bar-serves x z)
-
-covers : (a : Account) (c : Call) (side : Side) (more : Bool) (l : List ℕ) → Agrees a c → numberOf (informationOf c side more l .answer) ≡ 0 → (counted a side ≡ true) ⊎ (0 < purseOf a side .credit)
-covers a c side more l g z =
-    let x = information-serves c side more l z in
-    let s = g .purses side in
-    rw (counted-same a c g (g .terms (x .0)) side, s .count, s .credit) (x .1)
+      view : {s : Reply} → Heard c (talkingOf (c .phase)) true (withElementOf c (seenOf l (c .rights .limit)) (carriedOf c side more (informationPassageOf c side))) s → Covers c q side s
+      view (through s h k) = element-covers side _ h
+      view (barred x) = λ z. absurd (bar-covers x z)
 
 pub covered : Covered
-covered os side more l z = covers _ _ side more l (run-books unopened freshCall os fresh-books) z
+covered os side more l z =
+    let g = after-run os in
+    rw (g .same) (covers (runOf freshCall os) (g .requests) more side l z)

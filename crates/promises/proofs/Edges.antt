@@ -17,12 +17,12 @@ use Rattle.call.specs.Facility.{facilityVerdictOf, facilityCallOf, aboutThreeOf
 use Rattle.call.specs.Tick.{tickedMetersOf, refillsOf, readyOf, runsOf, passesTickOf, tickOf}
 use Rattle.call.specs.Step.{notAnEventOf}
 use Rattle.promises.specs.Edges.{Edges}
-use Rattle.promises.specs.Instances.{Instances, Reached, Broken}
+use Rattle.promises.specs.Instances.{Instances, Reached, Broken, Example}
 
 -- all under one line that opens the definitions
-computed : Edges × Instances × Reached × Broken
+computed : Edges × Instances × Reached × Broken × Example
 unfolding emptyOf meterFitsOf grantedOf countedOf spentOf markedOf underThreeOf passageOf wellFormedOf seenOf goesOutOf rightsFitOf referenceFitsOf remainsOf firstStandingOf standingsOf lacksOf passedRequestsOf networkRefusalsOf failedOf settlesOf tellsOf declinesOf silence nobodyAsks sayingOf bareOf congestionOf informsOf onlyIfOf noRights noServices emptyMeters freshCall fieldsFitOf soundOf inPhaseOf barOf refusedOf heardOf replyOf setupPhaseOf filledOf toCallerOf toCalledOf setupCarriesOf proceedsOf setupOf grantsOf answeredCallOf goesOnOf clearsOf alertingFatesOf connectFatesOf answeredOf alertingOf connectOf metersOf informationPassageOf carriedOf withElementOf informationOf refilledOf tickedOf toRequestOf toAnswerOf silentAnswers closingFacilitiesOf closedCallOf passedOnOf disconnectOf facilityVerdictOf facilityCallOf aboutThreeOf passesFacilityOf facilityOf tickedMetersOf refillsOf readyOf runsOf passesTickOf tickOf notAnEventOf
-computed = ((refl, (refl, (refl, (refl, (refl, (refl, (refl, (refl, (refl, tt))))))))), (refl, (refl, (refl, (refl, (refl, (refl, (refl, (refl, (refl, (refl, (refl, (refl, (refl, (refl, tt)))))))))))))), inl (inr (inr refl)), refl)
+computed = ((refl, (refl, (refl, (refl, (refl, (refl, (refl, (refl, (refl, tt))))))))), (refl, (refl, (refl, (refl, (refl, (refl, (refl, (refl, (refl, (refl, (refl, (refl, (refl, (refl, tt)))))))))))))), inl (inr (inr refl)), refl, (refl, refl))
 
 pub edges : Edges
 edges = computed .0
@@ -35,3 +35,6 @@ reached = computed .2
 
 pub broken : Broken
 broken = computed .3
+
+pub example : Example
+example = computed .4

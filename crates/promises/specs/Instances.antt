@@ -18,6 +18,7 @@ use Rattle.call.specs.Sound.{freshCall}
 use Rattle.call.specs.Step.{stepOf}
 use Rattle.promises.specs.Numbers.{Live}
 use Rattle.promises.specs.Sound.{Offered, runOf}
+use Rattle.promises.specs.Credit.{Account, purseOf, books, unopened}
 use Rattle.promises.specs.Edges.{nothing, message, Outcome, Case, AllHold, elementOf, rights, setup, silent, says}
 
 -- an event without an element
@@ -135,3 +136,32 @@ broken =
 
 abbrev pub Broken : Type 0
 Broken = numberOf (stepOf broken Event.Tick [] .answer) ≡ 25
+
+-- the paper's example: "SETUP of reference 5, rights 7 0 0 131 2 1, service 3 preferred; ALERTING; CONNECT accepting 3; four calling USER INFORMATION of
+-- 4 octets; tick; another; calling DISCONNECT cause 16; called RELEASE COMPLETE"
+abbrev pub example : List Offered
+example =
+    setup 7 Request.Unasked Request.Unasked Request.Preferred 131 []
+    ∷ bare (Event.Alerting silent)
+    ∷ bare (Event.Connect (record { one = Given.Silent; two = Given.Silent; three = Given.Accepted }))
+    ∷ says Side.Calling
+    ∷ says Side.Calling
+    ∷ says Side.Calling
+    ∷ says Side.Calling
+    ∷ bare Event.Tick
+    ∷ says Side.Calling
+    ∷ bare (Event.Disconnect Side.Calling 16 silent)
+    ∷ bare (Event.ReleaseComplete Side.Called)
+    ∷ []
+
+-- a direction's credit in the account, after each event
+abbrev pub creditsOf : Side → Account → List Offered → List ℕ
+creditsOf side a [] = []
+creditsOf side a (o ∷ os) =
+    purseOf (books a (o .event) (o .element)) side .credit ∷ creditsOf side (books a (o .event) (o .element)) os
+
+-- EXAMPLE. The account at work: two messages are paid, two are not, and the tick pays for one more.
+abbrev pub Example : Type 0
+Example =
+    (creditsOf Side.Calling unopened example ≡ 0 ∷ 0 ∷ 2 ∷ 1 ∷ 0 ∷ 0 ∷ 0 ∷ 1 ∷ 0 ∷ 0 ∷ 0 ∷ [])
+    × (creditsOf Side.Called unopened example ≡ 0 ∷ 0 ∷ 2 ∷ 2 ∷ 2 ∷ 2 ∷ 2 ∷ 2 ∷ 2 ∷ 2 ∷ 2 ∷ [])

@@ -14,7 +14,7 @@ use Rattle.promises.specs.Numbers.{RightsInRange}
 use Rattle.promises.specs.Sound.{Offered}
 use Rattle.promises.specs.Edges.{elementOf, setup, silent}
 use Rattle.promises.specs.Instances.{bare}
-use Rattle.promises.specs.Credit.{historyOf, Purse, accountOf, unopened}
+use Rattle.promises.specs.Credit.{Purse, accountOf, unopened}
 use Rattle.promises.specs.MoreRights.{withRights, NoLess, Got, nothing, octets, Handed, handedOf}
 
 abbrev pub rightsOf : ℕ → Bool → Bool → ℕ → ℕ → ℕ → Rights
@@ -251,7 +251,7 @@ NoneLeftOut = EachWrong withouts × OutOfRangeWrong
 
 -- the account of the calling side's messages: two under the count and two under credit; and two under credit, then a tick
 abbrev pub purseAfter : Rights → List Offered → Purse
-purseAfter r os = accountOf unopened (historyOf freshCall (withRights r os)) .calling
+purseAfter r os = accountOf unopened (withRights r os) .calling
 
 abbrev pub CreditShown : Type 0
 CreditShown =
