@@ -4,7 +4,7 @@ use call::Call;
 use room::end_of;
 use libc::STDIN_FILENO;
 use libc::STDOUT_FILENO;
-use report::write_first;
+use notices::write_first;
 use rerun::Worked;
 use rerun::work_off;
 

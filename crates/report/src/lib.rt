@@ -9,7 +9,7 @@ ghost use Rattle.text.specs.Decimal.{decimalOf};
 ghost use Rattle.text.specs.Hex.{hexOf};
 ghost use Rattle.text.specs.Pieces.{Piece};
 ghost use Rattle.report.specs.Items.{causeItem, levelItem, saidItem, moreItem, elementItem, itemsOf, commas, joined, messageColumn};
-ghost use Rattle.report.specs.Line.{column, typeColumn, saidColumns, numberColumns, typeColumns, lineOf, firstLine, faultLine};
+ghost use Rattle.report.specs.Line.{column, typeColumn, saidColumns, numberColumns, typeColumns, lineOf};
 use room::Wrote;
 use room::end_of;
 use room::write_octets;
@@ -24,7 +24,6 @@ use service::standing::Said;
 use text::decimal::write_decimal;
 use text::hex::write_hex;
 use body::kind::Kind;
-use trace::reading::Fault;
 
 // What the columns of a record say. answer: the paper's number; calling and called: what is sent to each user.
 pub struct Columns {
@@ -277,29 +276,4 @@ pub fn write_line(buf: &mut [u8], at: usize, explained: bool, o: Columns) -> Wro
     let mut line = [0u8; 248];
     let n = put_line(&mut line, 0, explained, o);
     write_octets(buf, at, &line[0..n])
-}
-
-// Writes the line that comes before all others.
-pub fn write_first(buf: &mut [u8], at: usize, explained: bool) -> Wrote
-    ensures { λ r. ⌜ Written true at (firstLine explained) (now (buf .entry)) (now (buf .exit)) r ⌝ }
-{
-    if explained {
-        return write_octets(
-            buf,
-            at,
-            b"kind ref answer note calling called to-calling to-called\n",
-        );
-    }
-    write_octets(buf, at, b"kind ref answer note calling called\n")
-}
-
-// Writes the line that ends a run at a fault of the trace.
-pub fn write_fault(buf: &mut [u8], at: usize, f: Fault) -> Wrote
-    ensures { λ r. ⌜ Written true at (faultLine f) (now (buf .entry)) (now (buf .exit)) r ⌝ }
-{
-    match f {
-        Fault::Kind => write_octets(buf, at, b"error 31\n"),
-        Fault::Short => write_octets(buf, at, b"error 32\n"),
-        Fault::Range => write_octets(buf, at, b"error 33\n"),
-    }
 }

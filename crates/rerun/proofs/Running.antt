@@ -22,7 +22,8 @@ use Rattle.trace.specs.declared.reading.Record.{Record}
 use Rattle.body.specs.Kind.{sizeOf, kindOf}
 use Rattle.trace.specs.Reading.{recordOf, namedOf, entryOf, rangedOf}
 use Rattle.body.proofs.Sizes.{least}
-use Rattle.report.specs.Line.{lineOf, faultLine}
+use Rattle.report.specs.Line.{lineOf}
+use Rattle.notices.specs.Notices.{faultLine}
 use Rattle.rerun.specs.declared.Front.{Front}
 use Rattle.rerun.specs.declared.Worked.{Worked}
 use Rattle.exchange.specs.declared.bridge.Turned.{Turned}

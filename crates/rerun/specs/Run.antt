@@ -17,7 +17,8 @@ use Rattle.trace.specs.declared.reading.Record.{Record}
 use Rattle.body.specs.Kind.{sizeOf}
 use Rattle.trace.specs.Reading.{recordOf, elementOf}
 use Rattle.report.specs.declared.Columns.{Columns}
-use Rattle.report.specs.Line.{lineOf, faultLine}
+use Rattle.report.specs.Line.{lineOf}
+use Rattle.notices.specs.Notices.{faultLine}
 use Rattle.rerun.specs.declared.Front.{Front}
 use Rattle.rerun.specs.declared.Worked.{Worked}
 

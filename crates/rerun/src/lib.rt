@@ -8,7 +8,7 @@ use exchange::bridge::step_in;
 use exchange::choice::verdict_number;
 use exchange::settle::Outcome;
 use report::Columns;
-use report::write_fault;
+use notices::write_fault;
 use report::write_line;
 use body::kind::size;
 use trace::reading::Entry;

@@ -8,7 +8,7 @@ use Rattle.rerun.proofs.work_off.Statement.{statement}
 use Rattle.rerun.proofs.work_off.Tie as tie
 use Rattle.rerun.proofs.work_off.Reads as reads
 use Rattle.rerun.proofs.work_off.Lts as lts
-use Rattle.report.proofs.write_fault.Reads as write-fault-reads
+use Rattle.notices.proofs.write_fault.Reads as write-fault-reads
 use Rattle.report.proofs.write_line.Reads as write-line-reads
 use Rattle.rerun.proofs.columns_of.Reads as columns-of-reads
 use Rattle.rerun.proofs.front_of.Reads as front-of-reads

@@ -1,8 +1,8 @@
 use borrow.Author.Needs.{needs}
-use Rattle.report.proofs.write_first.Statement.{statement}
-use Rattle.report.proofs.write_first.Tie as tie
-use Rattle.report.proofs.write_first.Reads as reads
-use Rattle.report.proofs.write_first.Lts as lts
+use Rattle.notices.proofs.write_first.Statement.{statement}
+use Rattle.notices.proofs.write_first.Tie as tie
+use Rattle.notices.proofs.write_first.Reads as reads
+use Rattle.notices.proofs.write_first.Lts as lts
 use Rattle.room.proofs.write_octets.Reads as write-octets-reads
 
 slice-aggregate-write-octets : tie.Need-slice-aggregate-write-octets

@@ -1,9 +1,9 @@
 use Rattle.text.specs.Decimal.{digitsOf, decimalOf}
 use borrow.Author.Needs.{needs}
-use Rattle.report.proofs.write_fault.Statement.{statement}
-use Rattle.report.proofs.write_fault.Tie as tie
-use Rattle.report.proofs.write_fault.Reads as reads
-use Rattle.report.proofs.write_fault.Lts as lts
+use Rattle.notices.proofs.write_fault.Statement.{statement}
+use Rattle.notices.proofs.write_fault.Tie as tie
+use Rattle.notices.proofs.write_fault.Reads as reads
+use Rattle.notices.proofs.write_fault.Lts as lts
 use Rattle.room.proofs.write_octets.Reads as write-octets-reads
 
 enum-told : tie.Need-enum-told
