@@ -1,18 +1,18 @@
 // A case's line: its name, what was found, and whether that is what the standard gives.
 use component::facility::Component;
 use component::facility::write_facility;
-use room::Bar;
-use room::Wrote;
-use room::end_of;
-use room::write_octets;
-use libc::STDOUT_FILENO;
-use line::write_line;
 use fields::Message;
 use fields::Place;
+use libc::STDOUT_FILENO;
+use line::write_line;
 use message::reader::Read;
 use message::reader::part;
 use message::reader::read_message;
 use message::reader::user_user;
+use room::Bar;
+use room::Wrote;
+use room::end_of;
+use room::write_octets;
 use text::hex::write_hex;
 use writer::write_message;
 

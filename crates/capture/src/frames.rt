@@ -5,9 +5,9 @@ ghost use Prim.Native.Nat.{_+_, _*_};
 ghost use lib.ListN.{length};
 ghost use Rattle.room.specs.Room.{Written};
 ghost use Rattle.capture.specs.Frames.{laterOf, firstLine, lastLine, keptOf, Digested, Kept};
+use line::write_line;
 use room::Wrote;
 use room::write_octets;
-use line::write_line;
 
 // How many octets of a piece of capture were used, and how many octets of lines were written.
 pub struct Done {

@@ -6,9 +6,9 @@ use capture::frames::keep;
 use capture::frames::later;
 use capture::frames::write_first;
 use capture::frames::write_last;
-use room::end_of;
 use libc::STDIN_FILENO;
 use libc::STDOUT_FILENO;
+use room::end_of;
 
 // What of the capture is in the buffer and not printed yet: the octets from one place to another, of which the first has an
 // offset in the capture.

@@ -1,12 +1,12 @@
 // A trace from standard input to standard output, in a fixed amount of memory. What is printed is computed in `rerun` and
 // `report`; here octets are only read, kept and written.
 use call::Call;
-use room::end_of;
 use libc::STDIN_FILENO;
 use libc::STDOUT_FILENO;
 use notices::write_first;
 use rerun::Worked;
 use rerun::work_off;
+use room::end_of;
 
 // The octets of the trace that the buffer holds, from one place to another, and the calls. last: nothing more comes after
 // these octets. more: the run goes on.

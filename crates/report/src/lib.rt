@@ -10,6 +10,7 @@ ghost use Rattle.text.specs.Hex.{hexOf};
 ghost use Rattle.text.specs.Pieces.{Piece};
 ghost use Rattle.report.specs.Items.{causeItem, levelItem, saidItem, moreItem, elementItem, itemsOf, commas, joined, messageColumn};
 ghost use Rattle.report.specs.Line.{column, typeColumn, saidColumns, numberColumns, typeColumns, lineOf};
+use body::kind::Kind;
 use room::Wrote;
 use room::end_of;
 use room::write_octets;
@@ -23,7 +24,6 @@ use service::element::note_number;
 use service::standing::Said;
 use text::decimal::write_decimal;
 use text::hex::write_hex;
-use body::kind::Kind;
 
 // What the columns of a record say. answer: the paper's number; calling and called: what is sent to each user.
 pub struct Columns {

@@ -1,16 +1,16 @@
 // A trace, worked off piece by piece: each record at a table of calls, and a line of it.
 ghost use mathlib.Core.Path.{_≡_};
 ghost use Rattle.rerun.specs.Run.{heardOf, frontOf, turnedAt, columnsOf, soFar, WorkedOff};
+use body::kind::size;
 use call::Call;
-use room::Wrote;
 use exchange::bridge::Turned;
 use exchange::bridge::step_in;
 use exchange::choice::verdict_number;
 use exchange::settle::Outcome;
-use report::Columns;
 use notices::write_fault;
+use report::Columns;
 use report::write_line;
-use body::kind::size;
+use room::Wrote;
 use trace::reading::Entry;
 use trace::reading::Fault;
 use trace::reading::Record;

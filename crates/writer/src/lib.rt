@@ -12,10 +12,6 @@ use component::cause::write_cause;
 use component::facility::Component;
 use component::facility::component_fits;
 use component::facility::write_facility;
-use room::Bar;
-use room::Wrote;
-use room::end_of;
-use room::write_octets;
 use fields::Facilities;
 use fields::Header;
 use fields::Message;
@@ -23,6 +19,10 @@ use fields::Single;
 use fields::Width;
 use fields::kind::Kind;
 use fields::kind::kind_octet;
+use room::Bar;
+use room::Wrote;
+use room::end_of;
+use room::write_octets;
 
 // References 0 to 127 or to 32767, by length.
 fn reference_fits(w: Width, r: u16) -> bool
