@@ -1,0 +1,5 @@
+pub mod Fronts
+pub mod Making
+pub mod Causes
+pub mod Lines
+pub mod Promises
