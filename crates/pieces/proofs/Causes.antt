@@ -1,12 +1,11 @@
 -- No message of a reply has a cause over 127.
-use Prim.Native.Nat.{ℕ, _+_, _≤_}
-use mathlib.Core.List.{List, [], _∷_, _++_}
+use Prim.Native.Nat.{ℕ, _≤_}
+use mathlib.Core.List.{List}
 use mathlib.Core.Bool.{Bool, true, false, cond}
-use mathlib.Core.Path.{_≡_, refl, sym, ap, _∙_}
+use mathlib.Core.Path.{_≡_}
 use native.Mathlib.Omega.{arith}
 use borrow.Author.Tests.{leb-true}
 use lib.Dec.{leb}
-use lib.ListN.{length, length-append}
 use Rattle.meter.specs.declared.Passage.{Passage}
 use Rattle.service.specs.declared.cause.Cause.{Cause}
 use Rattle.service.specs.declared.element.Note.{Note}
@@ -18,20 +17,18 @@ use Rattle.service.specs.declared.standing.Fate.{Fate}
 use Rattle.service.specs.declared.standing.Fates.{Fates}
 use Rattle.service.specs.declared.standing.Given.{Given}
 use Rattle.service.specs.declared.standing.Requests.{Requests}
-use Rattle.service.specs.declared.standing.Said.{Said}
 use Rattle.service.specs.declared.standing.Standing.{Standing}
 use Rattle.service.specs.declared.standing.Standings.{Standings}
 use Rattle.service.specs.Cause.{firstOf}
-use Rattle.service.specs.Element.{wholeOf, noteNumberOf}
+use Rattle.service.specs.Element.{wholeOf}
 use Rattle.service.specs.Standing.{lacksOf, decidedOf, failureOf, failedOf}
 use Rattle.rules.specs.declared.answer.Answer.{Answer}
 use Rattle.rules.specs.declared.message.Kind.{Kind}
 use Rattle.rules.specs.declared.message.Level.{Level}
-use Rattle.rules.specs.declared.message.Message.{Message}
 use Rattle.rules.specs.declared.message.Sent.{Sent}
 use Rattle.rules.specs.declared.phase.Phase.{Phase}
 use Rattle.rules.specs.declared.side.Side.{Side}
-use Rattle.rules.specs.Answer.{takenOf, numberOf}
+use Rattle.rules.specs.Answer.{takenOf}
 use Rattle.rules.specs.Message.{sayingOf, bareOf, congestionOf, informsOf, onlyIfOf}
 use Rattle.call.specs.declared.Call.{Call}
 use Rattle.call.specs.declared.Event.{Event}
@@ -45,13 +42,11 @@ use Rattle.call.specs.Facility.{aboutThreeOf, passesFacilityOf, facilityOf}
 use Rattle.call.specs.Disconnect.{passedOnOf, disconnectOf, endsOf, releaseCompleteOf}
 use Rattle.call.specs.Tick.{readyOf, passesTickOf, tickOf}
 use Rattle.call.specs.Step.{notAnEventOf, stepOf}
-use Rattle.exchange.specs.declared.choice.Verdict.{Verdict}
 use Rattle.exchange.specs.declared.choice.Choice.{Choice}
 use Rattle.exchange.specs.declared.settle.Outcome.{Outcome}
-use Rattle.exchange.specs.Choice.{verdictNumber, chosenOf}
+use Rattle.exchange.specs.Choice.{chosenOf}
 use Rattle.exchange.specs.Settle.{settledOf, refusalOf, outcomeOf as settledOutcome}
 use Rattle.exchange.specs.Step.{outcomeAt, stepOutcome}
-use Rattle.exchange.specs.Bridge.{turnedOf}
 use Rattle.pieces.proofs.Making.{by-cond}
 
 -- causes, messages and replies with causes up to 127

@@ -3,3 +3,4 @@ pub mod Making
 pub mod Causes
 pub mod Lines
 pub mod Promises
+pub mod Instances

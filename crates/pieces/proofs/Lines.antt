@@ -1,10 +1,10 @@
 -- The line of a record has at most 143 octets.
-use Prim.Native.Nat.{ℕ, suc, _+_, _<_, _≤_}
+use Prim.Native.Nat.{ℕ, suc, _+_, _≤_}
 use mathlib.Core.List.{List, [], _∷_, _++_}
 use mathlib.Core.Bool.{Bool, true, false}
-use mathlib.Core.Path.{_≡_, refl, sym, ap, _∙_}
+use mathlib.Core.Path.{_≡_, refl}
 use native.Mathlib.Omega.{arith}
-use lib.ListN.{length, getD, length-append}
+use lib.ListN.{length, length-append}
 use Rattle.service.specs.declared.cause.Cause.{Cause}
 use Rattle.service.specs.declared.element.Note.{Note}
 use Rattle.service.specs.declared.standing.Said.{Said}
@@ -16,7 +16,6 @@ use Rattle.rules.specs.declared.message.Sent.{Sent}
 use Rattle.rules.specs.Answer.{numberOf}
 use Rattle.call.specs.declared.Call.{Call}
 use Rattle.exchange.specs.declared.choice.Verdict.{Verdict}
-use Rattle.exchange.specs.declared.settle.Outcome.{Outcome}
 use Rattle.exchange.specs.Choice.{verdictNumber}
 use Rattle.exchange.specs.Bridge.{turnedOf}
 use Rattle.exchange.specs.Step.{stepOutcome}
@@ -29,11 +28,11 @@ use Rattle.text.specs.Decimal.{decimalOf}
 use Rattle.text.proofs.Digits.{at-most}
 use Rattle.report.specs.declared.Columns.{Columns}
 use Rattle.report.specs.Items.{causeItem, levelItem, saidItem, moreItem, elementItem, itemsOf, commas, joined, messageColumn}
-use Rattle.report.specs.Line.{column, typeColumn, saidColumns, numberColumns, typeColumns, lineOf, faultLine}
+use Rattle.report.specs.Line.{typeColumn, saidColumns, numberColumns, typeColumns, lineOf, faultLine}
 use Rattle.rerun.specs.Run.{turnedAt, columnsOf, lineAt}
 use Rattle.pieces.specs.Promises.{Octets}
 use Rattle.pieces.proofs.Fronts.{Whole}
-use Rattle.pieces.proofs.Causes.{CauseIn, SentIn, Tells, tells}
+use Rattle.pieces.proofs.Causes.{CauseIn, SentIn, tells}
 
 -- items, each with its `,`
 commas-then : (a b : List (List ℕ)) → length (commas (a ++ b)) ≡ length (commas a) + length (commas b)

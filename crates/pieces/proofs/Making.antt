@@ -1,11 +1,11 @@
 -- What a trace makes, record by record; and what a piece of it makes is the front of that.
-use Prim.Native.Nat.{ℕ, zero, suc, _+_, _-_, _≤_}
+use Prim.Native.Nat.{ℕ, zero, suc, _≤_}
 use mathlib.Core.List.{List, [], _∷_, _++_, append-assoc, append-nil}
 use mathlib.Core.Bool.{Bool, true, false, cond}
-use mathlib.Core.Path.{_≡_, refl, sym, ap, _∙_}
+use mathlib.Core.Path.{_≡_, refl, _∙_}
 use native.Mathlib.Omega.{arith}
 use lib.Dec.{leb}
-use lib.ListN.{length, drop, length-append, length-drop}
+use lib.ListN.{length, drop, length-drop}
 use lib.Seq.{drop-drop, drop-append-le}
 use Rattle.call.specs.declared.Call.{Call}
 use Rattle.trace.specs.declared.reading.Entry.{Entry}
@@ -17,7 +17,7 @@ use Rattle.report.specs.Line.{faultLine}
 use Rattle.rerun.specs.declared.Front.{Front}
 use Rattle.rerun.specs.Run.{heardOf, frontOf, turnedAt, lineAt, Ran, rests, ends, goes, turnOf, runIn}
 use Rattle.pieces.specs.Promises.{Made, madeBy, madeIn, madeOf, thenMade}
-use Rattle.pieces.proofs.Fronts.{Whole, Told, told, stays, size-least, size-within, same-element}
+use Rattle.pieces.proofs.Fronts.{Whole, told, stays, size-least, size-within, same-element}
 
 pub by-cond : {A : Type 0} (P : A → Type 0) (a b : A) (t : Bool) → (t ≡ true → P a) → (t ≡ false → P b) → P (cond t a b)
 by-cond P a b true h k = h refl

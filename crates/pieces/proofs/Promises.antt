@@ -1,12 +1,11 @@
 -- The promises, and what they rest on.
-use Prim.Native.Nat.{ℕ, zero, suc, _+_, _≤_}
+use Prim.Native.Nat.{ℕ, _+_, _≤_}
 use mathlib.Core.List.{List, [], _∷_, _++_, append-assoc, append-nil}
 use mathlib.Core.Bool.{Bool, true, false, cond}
-use mathlib.Core.Path.{_≡_, refl, sym, ap, _∙_}
+use mathlib.Core.Path.{_≡_, refl, ap}
 use native.Mathlib.Omega.{arith}
 use borrow.Author.Tests.{le-leb}
-use lib.Dec.{leb}
-use lib.ListN.{length, getD, drop, length-append}
+use lib.ListN.{length, drop, length-append}
 use lib.Seq.{drop-append-le, getD-drop}
 use Rattle.call.specs.declared.Call.{Call}
 use Rattle.trace.specs.declared.reading.Entry.{Entry}
@@ -16,7 +15,7 @@ use Rattle.trace.specs.Reading.{recordOf}
 use Rattle.report.specs.Line.{faultLine}
 use Rattle.rerun.specs.declared.Front.{Front}
 use Rattle.rerun.specs.Run.{heardOf, frontOf, lineAt, Ran, turnOf, runIn, runOf}
-use Rattle.pieces.specs.Promises.{Made, madeOf, printedOf, thenMade, GoesOn, Octets, longest, Bounds, Bounded, Run, Printed, WholeRun}
+use Rattle.pieces.specs.Promises.{madeOf, printedOf, GoesOn, Octets, longest, Bounded, Run, WholeRun}
 use Rattle.pieces.proofs.Fronts.{record-none}
 use Rattle.pieces.proofs.Making.{taken, none-left, cut-short, made-end, Went, went}
 use Rattle.pieces.proofs.Lines.{record-short, line-some, fault-short}

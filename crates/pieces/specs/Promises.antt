@@ -62,7 +62,7 @@ GoesOn =
     (explained last : Bool) (room : ℕ) (calls : List Call) (t more : List ℕ) → (last ≡ true → more ≡ []) →
     madeOf explained calls (t ++ more)
     ≡ thenMade (runOf explained last room calls t)
-      (madeOf explained (runOf explained last room calls t .calls) (drop (runOf explained last room calls t .used) t ++ more))
+    (madeOf explained (runOf explained last room calls t .calls) (drop (runOf explained last room calls t .used) t ++ more))
 
 -- BOUNDED. The line of a record of octets has at most 143 octets, whatever stands in the table: 12 for the four numbers, 6 for the two types,
 -- 62 for what each of two messages says, and its end. So in a buffer of 143 octets there is room for any line, and what nothing is printed
