@@ -2,11 +2,11 @@
 // says is computed in `capture`; here octets are only read and written.
 use capture::frames::Done;
 use capture::frames::digest;
-use capture::frames::keep;
 use capture::frames::later;
 use capture::frames::write_first;
 use capture::frames::write_last;
 use component::room::end_of;
+use component::room::keep;
 use libc::STDIN_FILENO;
 use libc::STDOUT_FILENO;
 

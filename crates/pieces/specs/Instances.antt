@@ -22,6 +22,10 @@ setupLine = 49 ∷ 32 ∷ 53 ∷ 32 ∷ 48 ∷ 32 ∷ 48 ∷ 32 ∷ 48 ∷ 50 �
 abbrev pub tickLine : List ℕ
 tickLine = 56 ∷ 32 ∷ 53 ∷ 32 ∷ 48 ∷ 32 ∷ 48 ∷ 32 ∷ 45 ∷ 32 ∷ 45 ∷ []
 
+-- `8 5 23 0 - -`: no call has that reference
+abbrev pub strangeLine : List ℕ
+strangeLine = 56 ∷ 32 ∷ 53 ∷ 32 ∷ 50 ∷ 51 ∷ 32 ∷ 48 ∷ 32 ∷ 45 ∷ 32 ∷ 45 ∷ []
+
 -- ` bare 3.p` and ` - -`, where messages are explained
 abbrev pub setupSays : List ℕ
 setupSays = 32 ∷ 98 ∷ 97 ∷ 114 ∷ 101 ∷ 32 ∷ 51 ∷ 46 ∷ 112 ∷ []
@@ -39,10 +43,6 @@ endLine = 10 ∷ []
 abbrev pub lines : Bool → List ℕ
 lines false = setupLine ++ endLine ++ tickLine ++ endLine ++ cutLine ++ endLine
 lines true = setupLine ++ setupSays ++ endLine ++ tickLine ++ tickSays ++ endLine ++ cutLine ++ endLine
-
--- `8 5 23 0 - -`: no call has that reference
-abbrev pub strangeLine : List ℕ
-strangeLine = 56 ∷ 32 ∷ 53 ∷ 32 ∷ 50 ∷ 51 ∷ 32 ∷ 48 ∷ 32 ∷ 45 ∷ 32 ∷ 45 ∷ []
 
 -- a run of a trace, from nothing and 32 fresh places
 pub record Ran (explained : Bool) (trace text : List ℕ) : Type 0 where

@@ -2,6 +2,7 @@
 // `report`; here octets are only read, kept and written.
 use call::Call;
 use component::room::end_of;
+use component::room::keep;
 use libc::STDIN_FILENO;
 use libc::STDOUT_FILENO;
 use report::write_first;
@@ -23,23 +24,6 @@ fn send(out: &[u8], n: usize) -> bool {
         return false;
     }
     io::write_all(STDOUT_FILENO, &out[0..n])
-}
-
-// Moves the octets that are left to the buffer's front: how many they are.
-fn keep(buf: &mut [u8], from: usize, to: usize) -> usize {
-    if from > to {
-        return 0;
-    }
-    if to > buf.len() {
-        return 0;
-    }
-    let n = to - from;
-    let mut i: usize = 0;
-    while i < n {
-        buf[i] = buf[from + i];
-        i += 1;
-    }
-    n
 }
 
 // Reads once, after the octets that the buffer holds: how many came.
