@@ -1,23 +1,26 @@
 -- The promises, and what they rest on.
-use Prim.Native.Nat.{ℕ, _+_, _≤_}
+use Prim.Native.Nat.{ℕ, zero, suc, _+_, _≤_}
 use mathlib.Core.List.{List, [], _∷_, _++_, append-assoc, append-nil}
 use mathlib.Core.Bool.{Bool, true, false, cond}
+use mathlib.Core.Logic.{_⊎_, inl, inr, ⊎-elim}
 use mathlib.Core.Path.{_≡_, refl, ap}
 use native.Mathlib.Omega.{arith}
 use borrow.Author.Tests.{le-leb}
-use lib.ListN.{length, drop, length-append}
+use lib.Dec.{leb}
+use lib.ListN.{length, drop, length-append, length-drop}
 use lib.Seq.{drop-append-le, getD-drop}
 use Rattle.call.specs.declared.Call.{Call}
 use Rattle.trace.specs.declared.reading.Entry.{Entry}
 use Rattle.trace.specs.declared.reading.Fault.{Fault}
 use Rattle.trace.specs.declared.reading.Record.{Record}
 use Rattle.trace.specs.Reading.{recordOf}
+use Rattle.trace.proofs.Sizes.{least}
 use Rattle.report.specs.Line.{faultLine}
 use Rattle.rerun.specs.declared.Front.{Front}
 use Rattle.rerun.specs.Run.{heardOf, frontOf, lineAt, Ran, turnOf, runIn, runOf}
-use Rattle.pieces.specs.Promises.{madeOf, printedOf, GoesOn, Octets, longest, Bounded, Run, WholeRun}
+use Rattle.pieces.specs.Promises.{madeOf, printedOf, GoesOn, Octets, longest, Bounded, Run, WholeRun, Runs, Always}
 use Rattle.pieces.proofs.Fronts.{record-none}
-use Rattle.pieces.proofs.Making.{taken, none-left, cut-short, made-end, Went, went}
+use Rattle.pieces.proofs.Making.{by-cond, taken, none-left, cut-short, made-end, Went, went}
 use Rattle.pieces.proofs.Lines.{record-short, line-some, fault-short}
 
 piece : (explained last : Bool) (room : ℕ) (calls : List Call) (t more : List ℕ) → (last ≡ true → more ≡ []) → Went explained calls t more (runOf explained last room calls t)
@@ -120,3 +123,57 @@ unfolding printedOf
 whole-run explained trace text left o r =
     let p = run (λ h. let z : _≡_ {A = ℕ} 0 1 = cc in absurd (omega arith)) o r in
     record { printed = rw (p .lines); table = p .table }
+
+-- a piece of which something is printed is used, or ends the run
+abbrev Moves : Ran → Type 0
+Moves r = (r .text ≡ []) ⊎ ((r .ended ≡ true) ⊎ (1 ≤ r .used))
+
+module _ (explained last : Bool) (calls : List Call) (room : ℕ) (t : List ℕ) (next : Entry → Ran) where
+  fault-moves : (f : Fault) → Moves (turnOf (Front.Faulty f) explained room calls t next)
+  fault-moves f = by-cond Moves _ _ (leb (length (faultLine f)) room) (λ _. inr (inl refl)) (λ _. inl refl)
+
+  moves-turn : (r : Record) → Moves (turnOf (heardOf last r) explained room calls t next)
+  moves-turn Record.End = inl refl
+  moves-turn (Record.Taken e) =
+      by-cond Moves _ _ (leb (length (lineAt explained calls e t)) room) (λ _. inr (inr (omega (arith, least (e .kind))))) (λ _. inl refl)
+  moves-turn (Record.Refused Fault.Kind) = fault-moves Fault.Kind
+  moves-turn (Record.Refused Fault.Short) =
+      by-cond (λ f. Moves (turnOf f explained room calls t next)) _ _ last (λ _. fault-moves Fault.Short) (λ _. inl refl)
+  moves-turn (Record.Refused Fault.Range) = fault-moves Fault.Range
+
+moves : (k : ℕ) (explained last : Bool) (room : ℕ) (calls : List Call) (t : List ℕ) → Moves (runIn k explained last room calls t)
+unfolding runIn frontOf
+moves zero explained last room calls t = inl refl
+moves (suc k) explained last room calls t = moves-turn explained last calls room t _ (recordOf t)
+
+-- so the last piece is worked off in as many turns as it has octets
+module _ (explained : Bool) where
+  abbrev turned : List Call → List ℕ → Ran
+  turned calls held = runOf explained true longest calls held
+
+  faulty : (calls : List Call) (held : List ℕ) → turned calls held .ended ≡ true → Runs explained true calls held []
+  faulty calls held e = record { text = _; left = _; run = Run.faults true longest held [] e }
+
+  last-turn : (calls : List Call) (held : List ℕ) (b : Bool) → turned calls held .ended ≡ b → Runs explained true (turned calls held .calls) (drop (turned calls held .used) held) [] → Runs explained true calls held []
+  last-turn calls held true e r = faulty calls held e
+  last-turn calls held false e r = record { text = _; left = _; run = Run.prints true longest held [] e (r .run) }
+
+  last-piece : (calls : List Call) (held : List ℕ) → (1 ≤ turned calls held .used → Runs explained true (turned calls held .calls) (drop (turned calls held .used) held) []) → Runs explained true calls held []
+  unfolding runOf
+  last-piece calls held then =
+      ⊎-elim (λ e. record { text = _; left = _; run = Run.ended longest held (omega arith) e })
+      (λ m. ⊎-elim (faulty calls held) (λ u. last-turn calls held (turned calls held .ended) refl (then u)) m)
+      (moves (length held) explained true longest calls held)
+
+  last-pieces : (n : ℕ) (calls : List Call) (held : List ℕ) → length held ≤ n → Runs explained true calls held []
+  last-pieces zero calls held h = last-piece calls held (λ u. absurd (omega (arith, piece explained true longest calls held [] (λ _. refl) .within)))
+  last-pieces (suc n) calls held h = last-piece calls held (λ u. last-pieces n _ _ (rw length-drop (omega arith)))
+
+  read-all : (calls : List Call) (held more : List ℕ) → Runs explained true calls (held ++ more) [] → Runs explained false calls held more
+  read-all calls held more r =
+      let all : Runs explained false calls held (more ++ []) = record { text = _; left = _; run = Run.reads held more [] (Run.nothing (held ++ more) (r .run)) } in
+      rw append-nil at all
+
+pub always : Always
+always explained true calls held more end = rw (end refl) (last-pieces explained (length held) calls held (omega arith))
+always explained false calls held more end = read-all explained calls held more (last-pieces explained (length (held ++ more)) calls (held ++ more) (omega arith))

@@ -115,3 +115,12 @@ abbrev pub WholeRun : Type 0
 WholeRun =
     (explained : Bool) (trace text : List ℕ) (left : List Call) → Octets trace → Run explained false places [] trace text left →
     Printed explained trace text left
+
+-- ALWAYS. Whatever a run holds and whatever has yet to come, it can go on to an end: so every trace has a run.
+pub record Runs (explained last : Bool) (calls : List Call) (held more : List ℕ) : Type 0 where
+  pub text : List ℕ
+  pub left : List Call
+  pub run : Run explained last calls held more text left
+
+abbrev pub Always : Type 0
+Always = (explained last : Bool) (calls : List Call) (held more : List ℕ) → (last ≡ true → more ≡ []) → Runs explained last calls held more
