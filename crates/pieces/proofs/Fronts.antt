@@ -20,6 +20,14 @@ use Rattle.trace.specs.Promises.{Field, InRange}
 use Rattle.trace.proofs.Sizes.{least}
 use Rattle.trace.proofs.Ranged.{in-range}
 
+-- an end and a record that is cut short may become another record; all others stay
+abbrev Stays : Record → Type 0
+Stays Record.End = ⊥
+Stays (Record.Taken e) = Unit {0}
+Stays (Record.Refused Fault.Kind) = Unit {0}
+Stays (Record.Refused Fault.Short) = ⊥
+Stays (Record.Refused Fault.Range) = Unit {0}
+
 module _ (t more : List ℕ) where
   same : (i : ℕ) → i < length t → getD (t ++ more) i 0 ≡ getD t i 0
   same i h = List·getD-append t more 0 i h
@@ -81,14 +89,6 @@ module _ (t more : List ℕ) where
   unfolding entryOf
   same-entry k h = rw (same-reference (omega (arith, least k)), same-event k h, same-count k h)
 
-  -- an end and a record that is cut short may become another record; all others stay
-  abbrev Stays : Record → Type 0
-  Stays Record.End = ⊥
-  Stays (Record.Taken e) = Unit {0}
-  Stays (Record.Refused Fault.Kind) = Unit {0}
-  Stays (Record.Refused Fault.Short) = ⊥
-  Stays (Record.Refused Fault.Range) = Unit {0}
-
   kind-stays : (k : Kind) (a : Bool) → ltb (length t) (sizeOf k) ≡ a → Stays (cond a (Record.Refused Fault.Short) (cond (rangedOf k t) (Record.Taken (entryOf k t)) (Record.Refused Fault.Range))) → namedOf (Named.Known k) (t ++ more) ≡ namedOf (Named.Known k) t
   kind-stays k true e s = absurd s
   kind-stays k false e s =
@@ -109,7 +109,7 @@ record-some : (x : ℕ) (t : List ℕ) → recordOf (x ∷ t) ≡ namedOf (kindO
 unfolding recordOf
 record-some x t = rw (ne-eqb (length (x ∷ t)) 0 (λ h. absurd (omega arith)))
 
-pub stays : (t more : List ℕ) → Stays t more (recordOf t) → recordOf (t ++ more) ≡ recordOf t
+pub stays : (t more : List ℕ) → Stays (recordOf t) → recordOf (t ++ more) ≡ recordOf t
 stays [] more s = absurd (rw record-none at s)
 stays (x ∷ t) more s = record-some x (t ++ more) ∙ named-stays (x ∷ t) more (kindOf x) (rw (record-some x t) at s) ∙ sym (record-some x t)
 
