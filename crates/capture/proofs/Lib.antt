@@ -1,6 +1,5 @@
 pub mod Framing
 pub mod Digesting
-pub mod Keeping
 pub mod Fronts
 pub mod Promises
 pub mod Bounds

@@ -82,12 +82,3 @@ lastLine left = cond (eqb left 0) [] (99 ∷ 117 ∷ 116 ∷ 10 ∷ [])
 -- what is printed of a whole capture; "An empty capture prints the first line alone."
 unfoldable pub printedOf : List ℕ → List ℕ
 printedOf c = firstLine ++ linesOf (framesOf 0 c) ++ lastLine (length c - spanOf (framesOf 0 c))
-
--- the octets of a buffer from a place to another; none where the places do not lie in it
-unfoldable pub keptOf : ℕ → ℕ → List ℕ → List ℕ
-keptOf from to l = cond (leb from to) (cond (leb to (length l)) (take (to - from) (drop from l)) []) []
-
--- the answer r, and the buffer l' that is left: those octets at its front
-pub record Kept (from to : ℕ) (l l' : List ℕ) (r : ℕ) : Type 0 where
-  pub count : r ≡ length (keptOf from to l)
-  pub buffer : l' ≡ placed 0 (keptOf from to l) l

@@ -4,7 +4,7 @@ ghost use mathlib.Core.Bool.{true};
 ghost use Prim.Native.Nat.{_+_, _*_};
 ghost use lib.ListN.{length};
 ghost use Rattle.room.specs.Room.{Written};
-ghost use Rattle.capture.specs.Frames.{laterOf, firstLine, lastLine, keptOf, Digested, Kept};
+ghost use Rattle.capture.specs.Frames.{laterOf, firstLine, lastLine, Digested};
 use line::write_line;
 use room::Wrote;
 use room::write_octets;
@@ -83,24 +83,4 @@ pub fn write_last(buf: &mut [u8], at: usize, left: usize) -> Wrote
         return write_octets(buf, at, &[]);
     }
     write_octets(buf, at, b"cut\n")
-}
-
-// Moves the octets of a buffer from a place to another to its front, and answers how many they are: what was not used of a
-// piece is the front of the next.
-pub fn keep(buf: &mut [u8], from: usize, to: usize) -> usize
-    ensures { λ r. ⌜ Kept from to (now (buf .entry)) (now (buf .exit)) r ⌝ }
-{
-    if from > to {
-        return 0;
-    }
-    if to > buf.len() {
-        return 0;
-    }
-    let n = to - from;
-    let mut i: usize = 0;
-    while i < n {
-        buf[i] = buf[from + i];
-        i += 1;
-    }
-    n
 }

@@ -2,13 +2,13 @@
 // says is computed in `capture`; here octets are only read and written.
 use capture::frames::Done;
 use capture::frames::digest;
-use capture::frames::keep;
 use capture::frames::later;
 use capture::frames::write_first;
 use capture::frames::write_last;
 use libc::STDIN_FILENO;
 use libc::STDOUT_FILENO;
 use room::end_of;
+use room::keep;
 
 // What of the capture is in the buffer and not printed yet: the octets from one place to another, of which the first has an
 // offset in the capture.

@@ -7,6 +7,7 @@ use notices::write_first;
 use rerun::Worked;
 use rerun::work_off;
 use room::end_of;
+use room::keep;
 
 // The octets of the trace that the buffer holds, from one place to another, and the calls. last: nothing more comes after
 // these octets. more: the run goes on.
@@ -23,23 +24,6 @@ fn send(out: &[u8], n: usize) -> bool {
         return false;
     }
     io::write_all(STDOUT_FILENO, &out[0..n])
-}
-
-// Moves the octets that are left to the buffer's front: how many they are.
-fn keep(buf: &mut [u8], from: usize, to: usize) -> usize {
-    if from > to {
-        return 0;
-    }
-    if to > buf.len() {
-        return 0;
-    }
-    let n = to - from;
-    let mut i: usize = 0;
-    while i < n {
-        buf[i] = buf[from + i];
-        i += 1;
-    }
-    n
 }
 
 // Reads once, after the octets that the buffer holds: how many came.

@@ -1,7 +1,7 @@
 -- What a lent buffer holds after something was written into it, or refused.
-use Prim.Native.Nat.{ℕ, _+_}
-use mathlib.Core.List.{List, _++_}
-use mathlib.Core.Bool.{Bool, cond, _&&_}
+use Prim.Native.Nat.{ℕ, _+_, _-_}
+use mathlib.Core.List.{List, [], _++_}
+use mathlib.Core.Bool.{Bool, cond}
 use mathlib.Core.Path.{_≡_}
 use lib.ListN.{length, take, drop}
 use lib.Dec.{leb}
@@ -27,3 +27,12 @@ leftOf fits at p l = cond fits (cond (leb (at + length p) (length l)) (placed at
 pub record Written (fits : Bool) (at : ℕ) (p l l' : List ℕ) (r : Wrote) : Type 0 where
   pub answer : r ≡ wroteOf fits at p l
   pub buffer : l' ≡ leftOf fits at p l
+
+-- the octets of a buffer from a place to another; none where the places do not lie in it
+unfoldable pub keptOf : ℕ → ℕ → List ℕ → List ℕ
+keptOf from to l = cond (leb from to) (cond (leb to (length l)) (take (to - from) (drop from l)) []) []
+
+-- the answer r, and the buffer l' that is left: those octets at its front
+pub record Kept (from to : ℕ) (l l' : List ℕ) (r : ℕ) : Type 0 where
+  pub count : r ≡ length (keptOf from to l)
+  pub buffer : l' ≡ placed 0 (keptOf from to l) l

@@ -1,10 +1,10 @@
-// Octets put into a buffer that the caller lends.
+// A buffer that the caller lends: octets put into it, and those that are left moved to its front.
 ghost use mathlib.Core.Path.{_≡_};
 ghost use mathlib.Core.Bool.{true};
 ghost use Prim.Native.Nat.{_≤_, _+_};
 ghost use lib.ListN.{length};
 ghost use Rattle.room.specs.Putting.{endOf};
-ghost use Rattle.room.specs.Room.{placed, Written};
+ghost use Rattle.room.specs.Room.{placed, Written, Kept};
 
 // Why nothing was written.
 pub enum Bar {
@@ -52,4 +52,24 @@ pub fn write_octets(buf: &mut [u8], at: usize, piece: &[u8]) -> Wrote
         return Wrote::Refused(Bar::Room);
     }
     Wrote::To(put(buf, at, piece))
+}
+
+// Moves the octets of a buffer from a place to another to its front, and answers how many they are: what was not used of a
+// piece is the front of the next.
+pub fn keep(buf: &mut [u8], from: usize, to: usize) -> usize
+    ensures { λ r. ⌜ Kept from to (now (buf .entry)) (now (buf .exit)) r ⌝ }
+{
+    if from > to {
+        return 0;
+    }
+    if to > buf.len() {
+        return 0;
+    }
+    let n = to - from;
+    let mut i: usize = 0;
+    while i < n {
+        buf[i] = buf[from + i];
+        i += 1;
+    }
+    n
 }

@@ -2,10 +2,10 @@ use Prim.Native.Nat.{_-_, _≤_}
 use mathlib.Core.Path.{_≡_, refl}
 use native.Mathlib.Omega.{arith}
 use lib.ListN.{length}
-use Rattle.capture.proofs.Keeping.{Moving, crossed, outside, move-none, move-one, moved}
+use Rattle.room.proofs.Keeping.{Moving, crossed, outside, move-none, move-one, moved}
 use borrow.Author.Needs.{needs}
-use Rattle.capture.proofs.frames.keep.Statement.{statement}
-use Rattle.capture.proofs.frames.keep.Tie as tie
+use Rattle.room.proofs.keep.Statement.{statement}
+use Rattle.room.proofs.keep.Tie as tie
 
 abbrev Inv-loop : tie.InvT-loop
 Inv-loop buf₀ from to n i₀ buf i = Moving buf₀ from to buf i × (n ≡ to - from) × (from ≤ to) × (to ≤ length buf₀)

@@ -8,9 +8,8 @@ use native.Mathlib.Numerals.{add-one}
 use borrow.Author.Tests.{le-leb, lt-leb}
 use lib.ListN.{length, getD, take, drop, set, length-set, length-drop}
 use lib.Seq.{paste, paste-zero, paste-suc, drop-paste, getD-drop, length-take-le}
-use Rattle.room.specs.Room.{placed}
-use Rattle.text.proofs.Pieced.{no-piece}
-use Rattle.capture.specs.Frames.{keptOf, Kept}
+use Rattle.room.specs.Room.{placed, keptOf, Kept}
+use Rattle.room.proofs.Pieces.{no-put}
 
 pub record Moving (d : List ℕ) (from to : ℕ) (buf : List ℕ) (i : ℕ) : Type 0 where
   pub some : i ≤ to - from
@@ -19,7 +18,7 @@ pub record Moving (d : List ℕ) (from to : ℕ) (buf : List ℕ) (i : ℕ) : Ty
 
 -- no octets
 pub none-kept : {from to : ℕ} {l : List ℕ} → keptOf from to l ≡ [] → Kept from to l l 0
-none-kept {from} {to} {l} e = record { count = rw e; buffer = rw e (no-piece {at = 0} {l = l} .octets) }
+none-kept {from} {to} {l} e = record { count = rw e; buffer = rw e (no-put {at = 0} {l = l} .octets) }
 
 pub crossed : {from to : ℕ} {l : List ℕ} → to < from → Kept from to l l 0
 unfolding keptOf

@@ -1,0 +1,194 @@
+-- No message of a reply has a cause over 127.
+use Prim.Native.Nat.{ℕ, _≤_}
+use mathlib.Core.List.{List}
+use mathlib.Core.Bool.{Bool, true, false, cond}
+use mathlib.Core.Path.{_≡_}
+use native.Mathlib.Omega.{arith}
+use borrow.Author.Tests.{leb-true}
+use lib.Dec.{leb}
+use Rattle.meter.specs.declared.Passage.{Passage}
+use Rattle.service.specs.declared.cause.Cause.{Cause}
+use Rattle.service.specs.declared.element.Note.{Note}
+use Rattle.service.specs.declared.element.Seen.{Seen}
+use Rattle.service.specs.declared.rights.Rights.{Rights}
+use Rattle.service.specs.declared.standing.Answers.{Answers}
+use Rattle.service.specs.declared.standing.Facilities.{Facilities}
+use Rattle.service.specs.declared.standing.Fate.{Fate}
+use Rattle.service.specs.declared.standing.Fates.{Fates}
+use Rattle.service.specs.declared.standing.Given.{Given}
+use Rattle.service.specs.declared.standing.Requests.{Requests}
+use Rattle.service.specs.declared.standing.Standing.{Standing}
+use Rattle.service.specs.declared.standing.Standings.{Standings}
+use Rattle.service.specs.Cause.{firstOf}
+use Rattle.service.specs.Element.{wholeOf}
+use Rattle.service.specs.Standing.{lacksOf, decidedOf, failureOf, failedOf}
+use Rattle.rules.specs.declared.answer.Answer.{Answer}
+use Rattle.rules.specs.declared.message.Kind.{Kind}
+use Rattle.rules.specs.declared.message.Level.{Level}
+use Rattle.rules.specs.declared.message.Sent.{Sent}
+use Rattle.rules.specs.declared.phase.Phase.{Phase}
+use Rattle.rules.specs.declared.side.Side.{Side}
+use Rattle.rules.specs.Answer.{takenOf}
+use Rattle.rules.specs.Message.{sayingOf, bareOf, congestionOf, informsOf, onlyIfOf}
+use Rattle.call.specs.declared.Call.{Call}
+use Rattle.call.specs.declared.Event.{Event}
+use Rattle.call.specs.declared.reply.Reply.{Reply}
+use Rattle.call.specs.Sound.{soundOf}
+use Rattle.call.specs.Reply.{barOf, refusedOf, heardOf, replyOf}
+use Rattle.call.specs.Setup.{toCallerOf, toCalledOf, proceedsOf, setupOf}
+use Rattle.call.specs.Answering.{goesOnOf, clearsOf, outcomeOf, alertingFatesOf, connectFatesOf, answeredOf, alertingOf, connectOf}
+use Rattle.call.specs.Information.{carriedOf, withElementOf, informationOf}
+use Rattle.call.specs.Facility.{aboutThreeOf, passesFacilityOf, facilityOf}
+use Rattle.call.specs.Disconnect.{passedOnOf, disconnectOf, endsOf, releaseCompleteOf}
+use Rattle.call.specs.Tick.{readyOf, passesTickOf, tickOf}
+use Rattle.call.specs.Step.{notAnEventOf, stepOf}
+use Rattle.exchange.specs.declared.choice.Choice.{Choice}
+use Rattle.exchange.specs.declared.settle.Outcome.{Outcome}
+use Rattle.exchange.specs.Choice.{chosenOf}
+use Rattle.exchange.specs.Settle.{settledOf, refusalOf, outcomeOf as settledOutcome}
+use Rattle.exchange.specs.Step.{outcomeAt, stepOutcome}
+use Rattle.pieces.proofs.Making.{by-cond}
+
+-- causes, messages and replies with causes up to 127
+abbrev pub CauseIn : Cause → Type 0
+CauseIn Cause.Absent = Unit {0}
+CauseIn (Cause.Value n) = n ≤ 127
+
+abbrev pub SentIn : Sent → Type 0
+SentIn Sent.Absent = Unit {0}
+SentIn (Sent.Present m) = CauseIn (m .cause)
+
+record Says (r : Reply) : Type 0 where
+  calling : SentIn (r .calling)
+  called : SentIn (r .called)
+
+refused-says : (c : Call) (a : Answer) (n : Note) → Says (refusedOf c a n)
+unfolding refusedOf
+refused-says c a n = record { calling = tt; called = tt }
+
+heard-says : (c : Call) (bar : Answer) (r : Reply) → (takenOf bar ≡ true → Says r) → Says (heardOf c bar r)
+unfolding heardOf
+heard-says c bar r h = by-cond Says _ _ (takenOf bar) h (λ _. refused-says c bar Note.Clear)
+
+saying-in : (kind : Kind) (cause : Cause) (said : Facilities) (element : Bool) → CauseIn cause → SentIn (sayingOf kind cause said element)
+unfolding sayingOf
+saying-in kind cause said element h = h
+
+congestion-in : (level : Level) → SentIn (congestionOf level)
+unfolding congestionOf
+congestion-in level = omega arith
+
+informs-in : (more : Bool) → SentIn (informsOf more)
+unfolding informsOf
+informs-in more = tt
+
+only-in : (b : Bool) (s : Sent) → SentIn s → SentIn (onlyIfOf b s)
+unfolding onlyIfOf
+only-in b s h = by-cond SentIn _ _ b (λ _. h) (λ _. tt)
+
+side-says : (side : Side) (c : Call) (a : Answer) (n : Note) (back on : Sent) → SentIn back → SentIn on → Says (replyOf side c a n back on)
+unfolding replyOf
+side-says Side.Calling c a n back on p q = record { calling = p; called = q }
+side-says Side.Called c a n back on p q = record { calling = q; called = p }
+
+setup-says : (reference : ℕ) (rights : Rights) (q : Requests) (seen : Seen) → Says (proceedsOf reference rights q seen)
+unfolding proceedsOf toCallerOf toCalledOf
+setup-says reference rights q seen =
+    record {
+      calling = by-cond SentIn _ _ (lacksOf rights q) (λ _. saying-in _ _ _ _ (omega arith)) (λ _. saying-in _ _ _ _ tt);
+      called = by-cond SentIn _ _ (lacksOf rights q) (λ _. tt) (λ _. saying-in _ _ _ _ tt);
+    }
+
+-- the cause of a failed service is 29 or 69
+decided-in : (s : Standing) (g : Given) → CauseIn (failureOf (decidedOf s g))
+decided-in Standing.Preferred Given.Accepted = tt
+decided-in Standing.Preferred Given.Rejected = tt
+decided-in Standing.Preferred Given.Silent = tt
+decided-in Standing.Required Given.Accepted = tt
+decided-in Standing.Required Given.Rejected = omega arith
+decided-in Standing.Required Given.Silent = omega arith
+decided-in Standing.Unasked g = tt
+decided-in Standing.InForce g = tt
+decided-in Standing.Closed g = tt
+
+first-in : (a b : Cause) → CauseIn a → CauseIn b → CauseIn (firstOf a b)
+first-in Cause.Absent b p q = q
+first-in (Cause.Value n) b p q = p
+
+failed-in : (f : Fates) → CauseIn (failureOf (f .one)) → CauseIn (failureOf (f .two)) → CauseIn (failureOf (f .three)) → CauseIn (failedOf f)
+unfolding failedOf
+failed-in f p q r = first-in (failureOf (f .one)) _ p (first-in (failureOf (f .two)) _ q r)
+
+alerting-in : (s : Standings) (a : Answers) → CauseIn (failedOf (alertingFatesOf s a))
+unfolding alertingFatesOf
+alerting-in s a = failed-in _ (decided-in (s .one) (a .one)) (decided-in (s .two) (a .two)) tt
+
+kept-in : (b : Bool) (s : Standing) (g : Given) → CauseIn (failureOf (cond b Fate.Kept (decidedOf s g)))
+kept-in b s g = by-cond (λ f. CauseIn (failureOf f)) _ _ b (λ _. tt) (λ _. decided-in s g)
+
+connect-in : (alerted : Bool) (s : Standings) (a : Answers) → CauseIn (failedOf (connectFatesOf alerted s a))
+unfolding connectFatesOf
+connect-in alerted s a =
+    failed-in _ (kept-in alerted (s .one) (a .one)) (kept-in alerted (s .two) Given.Silent) (decided-in (s .three) (a .three))
+
+outcome-says : (c : Call) (kind : Kind) (next : Phase) (f : Fates) (seen : Seen) (x : Cause) → CauseIn x → Says (outcomeOf c kind next f seen x)
+unfolding goesOnOf clearsOf bareOf
+outcome-says c kind next f seen Cause.Absent h = record { calling = saying-in _ _ _ _ tt; called = tt }
+outcome-says c kind next f seen (Cause.Value n) h = record { calling = saying-in _ _ _ _ h; called = saying-in _ _ _ _ (omega arith) }
+
+answered-says : (c : Call) (kind : Kind) (next : Phase) (f : Fates) (l : List ℕ) → CauseIn (failedOf f) → Says (answeredOf c kind next f l)
+unfolding answeredOf
+answered-says c kind next f l h = outcome-says c kind next f _ (failedOf f) h
+
+carried-says : (c : Call) (side : Side) (more : Bool) (p : Passage) → Says (carriedOf c side more p)
+unfolding carriedOf
+carried-says c side more p = side-says side _ _ _ _ _ (only-in _ _ (congestion-in Level.NotReady)) (only-in _ _ (informs-in more))
+
+element-says : (c : Call) (seen : Seen) (r : Reply) → Says r → Says (withElementOf c seen r)
+unfolding withElementOf
+element-says c seen r h = by-cond Says _ _ (wholeOf seen) (λ _. h) (λ _. refused-says c _ _)
+
+tick-says : (c : Call) → Says (passesTickOf c)
+unfolding passesTickOf readyOf
+tick-says c = record { calling = only-in _ _ (congestion-in Level.Ready); called = only-in _ _ (congestion-in Level.Ready) }
+
+-- "DISCONNECT, cause over 127" is barred
+ranged-bar : (s a g : Bool) → takenOf (cond s (cond a (cond g Answer.Taken Answer.OutOfRange) Answer.OutOfPhase) Answer.Unsound) ≡ true → g ≡ true
+ranged-bar true true g h = by-cond (λ x. takenOf x ≡ true → g ≡ true) Answer.Taken Answer.OutOfRange g (λ e _. e) (λ _ z. absurd-of z) h
+  where
+    absurd-of : false ≡ true → g ≡ true
+    absurd-of z = let y : _≡_ {A = ℕ} 0 1 = cc in absurd (omega arith)
+ranged-bar true false g h = let y : _≡_ {A = ℕ} 0 1 = cc in absurd (omega arith)
+ranged-bar false a g h = let y : _≡_ {A = ℕ} 0 1 = cc in absurd (omega arith)
+
+in-bar : (c : Call) (a : Bool) (cause : ℕ) → takenOf (barOf c a (leb cause 127)) ≡ true → cause ≤ 127
+unfolding barOf
+in-bar c a cause h = leb-true cause 127 (ranged-bar (soundOf c) a (leb cause 127) h)
+
+-- any event
+says : (c : Call) (e : Event) (l : List ℕ) → Says (stepOf c e l)
+unfolding setupOf alertingOf connectOf informationOf facilityOf passesFacilityOf aboutThreeOf disconnectOf passedOnOf releaseCompleteOf endsOf bareOf tickOf notAnEventOf
+says c (Event.Setup reference rights q) l = heard-says c _ _ (λ _. setup-says reference rights q _)
+says c (Event.Alerting answers) l = heard-says c _ _ (λ _. answered-says c _ _ _ l (alerting-in (c .standings) answers))
+says c (Event.Connect answers) l = heard-says c _ _ (λ _. answered-says c _ _ _ l (connect-in _ (c .standings) answers))
+says c (Event.Information side more) l = heard-says c _ _ (λ _. element-says c _ _ (carried-says c side more _))
+says c (Event.Facility side what) l = heard-says c _ _ (λ _. side-says side _ _ _ _ _ (only-in _ _ (saying-in _ _ _ _ tt)) (only-in _ _ (saying-in _ _ _ _ tt)))
+says c (Event.Disconnect side cause answers) l = heard-says c _ _ (λ h. side-says side _ _ _ _ _ tt (saying-in _ _ _ _ (in-bar c _ cause h)))
+says c (Event.ReleaseComplete side) l = heard-says c _ _ (λ _. side-says side _ _ _ _ _ tt (saying-in _ _ _ _ tt))
+says c Event.Tick l = heard-says c _ _ (λ _. tick-says c)
+says c Event.CallProceeding l = refused-says c _ _
+says c Event.CongestionControl l = refused-says c _ _
+
+-- any event at any table
+pub record Tells (o : Outcome) : Type 0 where
+  pub calling : SentIn (o .calling)
+  pub called : SentIn (o .called)
+
+chosen-tells : (calls : List Call) (x : Choice) (e : Event) (l : List ℕ) → Tells (outcomeAt calls x e l)
+unfolding settledOf settledOutcome refusalOf
+chosen-tells calls (Choice.At i) e l = let s = says _ e l in record { calling = s .calling; called = s .called }
+chosen-tells calls (Choice.Refused v) e l = record { calling = tt; called = tt }
+
+pub tells : (calls : List Call) (n : ℕ) (e : Event) (l : List ℕ) → Tells (stepOutcome calls n e l)
+unfolding stepOutcome
+tells calls n e l = chosen-tells calls (chosenOf calls n e) e l

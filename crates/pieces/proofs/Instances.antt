@@ -1,0 +1,95 @@
+-- The runs, computed.
+use Prim.Native.Nat.{ℕ, zero, suc}
+use mathlib.Core.List.{List, [], _∷_, _++_}
+use mathlib.Core.Bool.{Bool, true, false, _&&_}
+use mathlib.Core.Path.{_≡_, refl}
+use native.Mathlib.Omega.{arith}
+use borrow.Author.Tests.{ltb-true}
+use lib.Dec.{ltb}
+use Rattle.meter.specs.Meter.{emptyOf, meterFitsOf}
+use Rattle.service.specs.Element.{wellFormedOf, seenOf, goesOutOf}
+use Rattle.service.specs.Rights.{rightsFitOf, referenceFitsOf}
+use Rattle.service.specs.Standing.{remainsOf, firstStandingOf, standingsOf, lacksOf, passedRequestsOf, networkRefusalsOf}
+use Rattle.rules.specs.Asking.{nobodyAsks}
+use Rattle.rules.specs.Message.{sayingOf, onlyIfOf}
+use Rattle.call.specs.Sound.{noRights, noServices, emptyMeters, freshCall, fieldsFitOf, soundOf}
+use Rattle.call.specs.Reply.{barOf, refusedOf, heardOf}
+use Rattle.call.specs.Setup.{setupPhaseOf, filledOf, toCallerOf, toCalledOf, setupCarriesOf, proceedsOf, setupOf}
+use Rattle.call.specs.Information.{metersOf}
+use Rattle.call.specs.Tick.{refillsOf, readyOf, runsOf, passesTickOf, tickOf}
+use Rattle.exchange.specs.Table.{tableSound}
+use Rattle.exchange.specs.Choice.{chooseOf, chosenOf}
+use Rattle.exchange.specs.Settle.{subjectOf, keptOf, outcomeOf, refusalOf, settledOf}
+use Rattle.exchange.specs.Step.{stepOutcome, stepTable}
+use Rattle.exchange.specs.Bridge.{turnedOf}
+use Rattle.body.specs.Kind.{kindOf}
+use Rattle.body.specs.Field.{flagOf, requestOf, blankOf, fieldFitsOf}
+use Rattle.trace.specs.Reading.{referenceOf, threeFitOf, fieldAtOf, setupRangedOf, rightsOf, requestsOf, countOf, entryOf, recordOf, elementOf}
+use Rattle.trace.proofs.Tests.{both}
+use Rattle.text.specs.Decimal.{digitsOf, decimalOf}
+use Rattle.text.specs.Hex.{digitOf}
+use Rattle.report.specs.Items.{itemsOf, commas, joined}
+use Rattle.report.specs.Line.{numberColumns, typeColumns, lineOf}
+use Rattle.rerun.specs.Run.{frontOf, turnedAt, columnsOf, lineAt, runIn, runOf}
+use Rattle.pieces.specs.Promises.{Octets, Run}
+use Rattle.pieces.specs.Instances.{onePart, otherPart, endLine, lines, strangeLine, Ran, Met}
+
+below : List ℕ → Bool
+below [] = true
+below (x ∷ t) = ltb x 256 && below t
+
+all-octets : (t : List ℕ) → below t ≡ true → Octets t
+unfolding below
+all-octets [] h i = omega arith
+all-octets (x ∷ t) h zero = ltb-true x 256 (both (ltb x 256) (below t) h .0)
+all-octets (x ∷ t) h (suc i) = all-octets t (both (ltb x 256) (below t) h .1) i
+
+-- the first part is read, and its line is printed where it fits exactly; the tick waits for the second; what is left of that is the last
+ran : (explained : Bool) → Ran explained (onePart ++ otherPart ++ []) (lines explained)
+unfolding emptyOf meterFitsOf wellFormedOf seenOf goesOutOf rightsFitOf referenceFitsOf remainsOf firstStandingOf standingsOf lacksOf passedRequestsOf networkRefusalsOf nobodyAsks sayingOf onlyIfOf noRights noServices emptyMeters freshCall fieldsFitOf soundOf barOf refusedOf heardOf setupPhaseOf filledOf toCallerOf toCalledOf setupCarriesOf proceedsOf setupOf metersOf refillsOf readyOf runsOf passesTickOf tickOf tableSound chooseOf chosenOf subjectOf keptOf outcomeOf refusalOf settledOf stepOutcome stepTable turnedOf kindOf flagOf requestOf blankOf fieldFitsOf referenceOf threeFitOf fieldAtOf setupRangedOf rightsOf requestsOf countOf entryOf recordOf elementOf digitsOf decimalOf digitOf itemsOf commas joined numberColumns typeColumns lineOf frontOf turnedAt columnsOf lineAt runIn runOf
+ran false =
+    record {
+      left = _;
+      run =
+          Run.reads [] onePart (otherPart ++ [])
+          (Run.prints false 14 onePart (otherPart ++ []) refl
+          (Run.reads (8 ∷ []) otherPart []
+          (Run.prints false 100 (8 ∷ otherPart) [] refl
+          (Run.nothing (7 ∷ []) (Run.faults true 9 (7 ∷ []) [] refl)))));
+    }
+ran true =
+    record {
+      left = _;
+      run =
+          Run.reads [] onePart (otherPart ++ [])
+          (Run.prints false 23 onePart (otherPart ++ []) refl
+          (Run.reads (8 ∷ []) otherPart []
+          (Run.prints false 100 (8 ∷ otherPart) [] refl
+          (Run.nothing (7 ∷ []) (Run.faults true 9 (7 ∷ []) [] refl)))));
+    }
+
+strange-ran : Ran false (8 ∷ 0 ∷ 5 ∷ []) (strangeLine ++ endLine)
+unfolding freshCall soundOf tableSound chooseOf chosenOf refusalOf stepOutcome stepTable turnedOf kindOf referenceOf countOf entryOf recordOf elementOf digitsOf decimalOf numberColumns typeColumns lineOf frontOf turnedAt columnsOf lineAt runIn runOf
+strange-ran =
+    record {
+      left = _;
+      run =
+          Run.reads [] (8 ∷ []) (0 ∷ 5 ∷ [])
+          (Run.reads (8 ∷ []) (0 ∷ 5 ∷ []) []
+          (Run.prints false 13 (8 ∷ 0 ∷ 5 ∷ []) [] refl (Run.nothing [] (Run.ended 143 [] (omega arith) refl))));
+    }
+
+empty-ran : Ran false [] []
+unfolding runIn runOf
+empty-ran = record { left = _; run = Run.nothing [] (Run.ended 143 [] (omega arith) refl) }
+
+pub met : Met
+unfolding below
+met =
+    record {
+      octets = all-octets (onePart ++ otherPart ++ []) refl;
+      replays = ran false;
+      explains = ran true;
+      strange = strange-ran;
+      empty = empty-ran;
+    }
