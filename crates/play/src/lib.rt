@@ -59,17 +59,27 @@ fn lines(buf: &[u8], h: Held, explained: bool, out: &mut [u8]) -> Worked {
     work_off(calls, &buf[from..to], h.last, explained, out)
 }
 
-// What is held goes to the buffer's front, and more is read after it. Where nothing comes, what is held is the last.
+// What is held goes to the buffer's front, and more is read after it. Where nothing comes, what is held is the last; and where
+// it was the last already, nothing more is read and the run ends.
 fn refill(buf: &mut [u8], h: Held) -> Held {
+    let calls = h.calls;
+    if h.last {
+        return Held {
+            calls: calls,
+            from: h.from,
+            to: h.to,
+            last: true,
+            more: false,
+        };
+    }
     let left = keep(buf, h.from, h.to);
     let got = fetch(buf, left);
-    let calls = h.calls;
     Held {
         calls: calls,
         from: 0,
         to: std::num::wrapping_add_usize(left, got),
         last: got == 0,
-        more: !h.last,
+        more: true,
     }
 }
 
