@@ -1,15 +1,9 @@
 pub mod Credit
-pub mod Edges
-pub mod Handed
 pub mod Handling
-pub mod Instances
-pub mod MoreInstances
 pub mod MoreRights
 pub mod Notes
 pub mod Numbers
 pub mod Refusals
-pub mod Samples
 pub mod Sending
 pub mod Services
-pub mod ShutOut
 pub mod Sound

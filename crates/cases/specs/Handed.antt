@@ -11,12 +11,12 @@ use Rattle.rules.specs.declared.phase.Phase.{Phase}
 use Rattle.rules.specs.declared.side.Side.{Side}
 use Rattle.call.specs.declared.Event.{Event}
 use Rattle.call.specs.Sound.{freshCall}
 use Rattle.promises.specs.Numbers.{InForce}
 use Rattle.promises.specs.Sound.{Offered, runOf}
-use Rattle.promises.specs.Edges.{elementOf, setup, silent, says}
-use Rattle.promises.specs.Instances.{bare, served, unserved}
+use Rattle.cases.specs.Edges.{elementOf, setup, silent, says}
+use Rattle.cases.specs.Instances.{bare, served, unserved}
 use Rattle.promises.specs.Handling.{handedTo}
 use Rattle.promises.specs.Services.{standingFor, Happens, Takes, Taken, Requires, Failing}
 
 abbrev pub gives : Given → Given → Given → Answers
 gives one two three = record { one = one; two = two; three = three }

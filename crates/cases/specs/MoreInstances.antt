@@ -10,12 +10,12 @@ use Rattle.rules.specs.declared.asking.What.{What}
 use Rattle.rules.specs.declared.side.Side.{Side}
 use Rattle.call.specs.declared.Event.{Event}
 use Rattle.call.specs.Sound.{freshCall}
 use Rattle.promises.specs.Numbers.{RightsInRange}
 use Rattle.promises.specs.Sound.{Offered}
-use Rattle.promises.specs.Edges.{elementOf, setup, silent}
-use Rattle.promises.specs.Instances.{bare}
+use Rattle.cases.specs.Edges.{elementOf, setup, silent}
+use Rattle.cases.specs.Instances.{bare}
 use Rattle.promises.specs.Credit.{Purse, accountOf, unopened}
 use Rattle.promises.specs.MoreRights.{withRights, NoLess, Got, nothing, octets, Handed, handedOf}
 
 abbrev pub rightsOf : ℕ → Bool → Bool → ℕ → ℕ → ℕ → Rights
 rightsOf services late leave limit burst refill =

@@ -16,8 +16,8 @@ use Rattle.call.specs.Disconnect.{closingFacilitiesOf, closedCallOf, passedOnOf
 use Rattle.call.specs.Facility.{facilityVerdictOf, facilityCallOf, aboutThreeOf, passesFacilityOf, facilityOf}
 use Rattle.call.specs.Tick.{tickedMetersOf, refillsOf, readyOf, runsOf, passesTickOf, tickOf}
 use Rattle.call.specs.Step.{notAnEventOf}
-use Rattle.promises.specs.Edges.{Edges}
-use Rattle.promises.specs.Instances.{Instances, Reached, Broken, Example}
+use Rattle.cases.specs.Edges.{Edges}
+use Rattle.cases.specs.Instances.{Instances, Reached, Broken, Example}
 
 -- all under one line that opens the definitions
 computed : Edges × Instances × Reached × Broken × Example

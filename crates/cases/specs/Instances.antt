@@ -16,10 +16,10 @@ use Rattle.call.specs.declared.Call.{Call}
 use Rattle.call.specs.declared.Event.{Event}
 use Rattle.call.specs.Sound.{freshCall}
 use Rattle.call.specs.Step.{stepOf}
 use Rattle.promises.specs.Numbers.{Live}
 use Rattle.promises.specs.Sound.{Offered, runOf}
 use Rattle.promises.specs.Credit.{Account, purseOf, books, unopened}
-use Rattle.promises.specs.Edges.{nothing, message, Outcome, Case, AllHold, elementOf, rights, setup, silent, says}
+use Rattle.cases.specs.Edges.{nothing, message, Outcome, Case, AllHold, elementOf, rights, setup, silent, says}
 
 -- an event without an element
 abbrev pub bare : Event → Offered

@@ -27,12 +27,12 @@ use Rattle.call.specs.Information.{metersOf, informationPassageOf, carriedOf, w
 use Rattle.call.specs.Disconnect.{closingFacilitiesOf, closedCallOf, passedOnOf, disconnectOf}
 use Rattle.call.specs.Facility.{facilityVerdictOf, facilityCallOf, aboutThreeOf, passesFacilityOf, facilityOf}
 use Rattle.call.specs.Tick.{tickedMetersOf, refillsOf, readyOf, runsOf, passesTickOf, tickOf}
 use Rattle.promises.specs.Numbers.{InForce}
 use Rattle.promises.specs.Sound.{runOf}
-use Rattle.promises.specs.Edges.{silent}
+use Rattle.cases.specs.Edges.{silent}
 use Rattle.promises.specs.Services.{standingFor, Taken, Requires, asked, alerting}
-use Rattle.promises.specs.Handed.{opening, connected, agreed, Handed, Held}
-use Rattle.promises.specs.ShutOut.{ShutOut}
+use Rattle.cases.specs.Handed.{opening, connected, agreed, Handed, Held}
+use Rattle.cases.specs.ShutOut.{ShutOut}
 
 -- what is computed, all under one line that opens the definitions
 abbrev opened : Reply

@@ -1,0 +1,4 @@
+pub mod Edges
+pub mod MoreInstances
+pub mod Samples
+pub mod ShutOut

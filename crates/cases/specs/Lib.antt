@@ -1,0 +1,6 @@
+pub mod Edges
+pub mod Instances
+pub mod Handed
+pub mod MoreInstances
+pub mod Samples
+pub mod ShutOut
