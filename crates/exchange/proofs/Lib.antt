@@ -6,5 +6,6 @@ pub mod Looks
 pub mod Along
 pub mod Searched
 pub mod Within
+pub mod Planned
 pub mod Counted
 pub mod Promises

@@ -1,4 +1,4 @@
-pub mod Bridge
+pub mod Plan
 pub mod Choice
 pub mod Settle
 pub mod Step

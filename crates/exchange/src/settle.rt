@@ -74,19 +74,6 @@ pub fn answered(r: Reply) -> Outcome
     }
 }
 
-// The two parts of what was settled.
-pub fn left(s: Settled) -> Call
-    ensures { λ r. ⌜ r ≡ s .call ⌝ }
-{
-    s.call
-}
-
-pub fn told(s: Settled) -> Outcome
-    ensures { λ r. ⌜ r ≡ s .outcome ⌝ }
-{
-    s.outcome
-}
-
 // A number of the table's: nothing is noted and nothing sent.
 pub fn refusal(v: Verdict) -> Outcome
     ensures { λ o. ⌜ o ≡ refusalOf v ⌝ }

@@ -51,7 +51,7 @@ pub fn later(c: Call, next: usize, end: usize) -> usize
     if c.live() { next } else { end }
 }
 
-fn get(t: &[Call], i: usize) -> Call
+pub(crate) fn get(t: &[Call], i: usize) -> Call
     requires { ⌜ i < length (now t) ⌝ }
     ensures { λ r. ⌜ r ≡ getD (now (t .entry)) i freshCall ⌝ }
 {
