@@ -12,12 +12,14 @@ use Rattle.call.specs.declared.Call.{Call}
 use Rattle.call.specs.declared.Event.{Event}
 use Rattle.call.specs.Sound.{freshCall}
 use Rattle.call.specs.Step.{stepOf}
-use Rattle.exchange.specs.declared.choice.Choice.{Choice}
-use Rattle.exchange.specs.declared.choice.Verdict.{Verdict}
-use Rattle.exchange.specs.declared.settle.Outcome.{Outcome}
-use Rattle.exchange.specs.Table.{liveAs, tableSound}
-use Rattle.exchange.specs.Choice.{verdictNumber, referenceOf, opensOf, rangedOf, chosenOf}
-use Rattle.exchange.specs.Settle.{subjectOf, outcomeOf, refusalOf, settledOf}
+use Rattle.settling.specs.declared.choice.Choice.{Choice}
+use Rattle.settling.specs.declared.choice.Verdict.{Verdict}
+use Rattle.settling.specs.declared.settle.Outcome.{Outcome}
+use Rattle.settling.specs.Look.{liveAs}
+use Rattle.exchange.specs.Table.{tableSound}
+use Rattle.exchange.specs.Chosen.{chosenOf}
+use Rattle.settling.specs.Choice.{verdictNumber, referenceOf, opensOf, rangedOf}
+use Rattle.settling.specs.Settle.{subjectOf, outcomeOf, refusalOf, settledOf}
 use Rattle.exchange.specs.Step.{outcomeAt, tableAt, stepOutcome, stepTable}
 use Rattle.exchange.specs.Promises.{heldCall}
 use Rattle.alone.specs.Alone.{Offered, Told, runOf, ownOf, eventsOf, fullOf, outcomesOf, Alone}

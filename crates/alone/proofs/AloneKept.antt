@@ -36,9 +36,9 @@ use Rattle.call.specs.Setup.{filledOf, proceedsOf, setupOf}
 use Rattle.call.specs.Sound.{soundOf, freshCall, inPhaseOf, emptyMeters}
 use Rattle.call.specs.Step.{notAnEventOf, stepOf}
 use Rattle.call.specs.Tick.{tickedMetersOf, refillsOf, runsOf, passesTickOf, tickOf}
-use Rattle.exchange.specs.Choice.{referenceOf, opensOf, rangedOf}
+use Rattle.settling.specs.Choice.{referenceOf, opensOf, rangedOf}
 use Rattle.exchange.specs.Promises.{MeterIn, FieldsIn}
-use Rattle.exchange.specs.Settle.{subjectOf, changesOf, keptOf, settledOf}
+use Rattle.settling.specs.Settle.{subjectOf, changesOf, keptOf, settledOf}
 use Rattle.exchange.proofs.Counted.{both, clash, reference-in, rights-in}
 
 -- what holds of both branches holds of the choice

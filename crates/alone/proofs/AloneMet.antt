@@ -20,8 +20,9 @@ use Rattle.call.specs.Information.{metersOf, informationPassageOf, carriedOf, w
 use Rattle.call.specs.Disconnect.{endsOf, releaseCompleteOf}
 use Rattle.call.specs.Tick.{refillsOf, runsOf, passesTickOf, tickOf}
 use Rattle.exchange.specs.Table.{tableSound}
-use Rattle.exchange.specs.Choice.{chooseOf, chosenOf}
-use Rattle.exchange.specs.Settle.{subjectOf, keptOf, outcomeOf, refusalOf, settledOf}
+use Rattle.exchange.specs.Chosen.{chosenOf}
+use Rattle.settling.specs.Choice.{chooseOf}
+use Rattle.settling.specs.Settle.{subjectOf, keptOf, outcomeOf, refusalOf, settledOf}
 use Rattle.exchange.specs.Step.{stepOutcome, stepTable}
 use Rattle.alone.specs.Alone.{AllFresh, Met, Needed}
 

@@ -14,8 +14,8 @@ use Rattle.rules.specs.declared.side.Side.{Side}
 use Rattle.call.specs.declared.Call.{Call}
 use Rattle.call.specs.declared.Event.{Event}
 use Rattle.call.specs.Sound.{freshCall}
-use Rattle.exchange.specs.declared.settle.Outcome.{Outcome}
-use Rattle.exchange.specs.Choice.{verdictNumber, referenceOf, opensOf}
+use Rattle.settling.specs.declared.settle.Outcome.{Outcome}
+use Rattle.settling.specs.Choice.{verdictNumber, referenceOf, opensOf}
 use Rattle.exchange.specs.Step.{stepOutcome, stepTable}
 
 -- an event as it is offered at a table

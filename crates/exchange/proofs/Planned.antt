@@ -7,10 +7,11 @@ use lib.ListN.{length, set}
 use Rattle.call.specs.declared.Call.{Call}
 use Rattle.call.specs.declared.Event.{Event}
 use Rattle.call.specs.Sound.{freshCall}
-use Rattle.exchange.specs.declared.choice.Choice.{Choice}
-use Rattle.exchange.specs.declared.plan.Put.{Put}
-use Rattle.exchange.specs.Choice.{chosenOf}
-use Rattle.exchange.specs.Plan.{lookAt, lookOf, planOf, committed, rowOf, recordOf}
+use Rattle.settling.specs.declared.choice.Choice.{Choice}
+use Rattle.settling.specs.declared.plan.Put.{Put}
+use Rattle.exchange.specs.Chosen.{chosenOf}
+use Rattle.exchange.specs.Halves.{lookAt, lookOf, committed}
+use Rattle.settling.specs.Plan.{planOf, rowOf, recordOf}
 use Rattle.exchange.specs.Step.{outcomeAt, tableAt, stepOutcome, stepTable}
 
 beyond : (l : List Call) (i : ℕ) (c : Call) → length l ≤ i → set l i c ≡ l

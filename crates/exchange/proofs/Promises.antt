@@ -26,13 +26,14 @@ use Rattle.call.specs.Setup.{setupOf, proceedsOf}
 use Rattle.call.specs.Sound.{freshCall, soundOf}
 use Rattle.call.specs.Step.{stepOf}
 use Rattle.exchange.specs.Table.{tableSound, findFrom, placeFrom}
-use Rattle.exchange.specs.Choice.{verdictNumber, referenceOf, opensOf, rangedOf, newPlaceOf, oldPlaceOf, chooseOf, chosenOf}
-use Rattle.exchange.specs.Settle.{subjectOf, changesOf, keptOf, outcomeOf, refusalOf, settledOf}
+use Rattle.exchange.specs.Chosen.{chosenOf}
+use Rattle.settling.specs.Choice.{verdictNumber, referenceOf, opensOf, rangedOf, newPlaceOf, oldPlaceOf, chooseOf}
+use Rattle.settling.specs.Settle.{subjectOf, changesOf, keptOf, outcomeOf, refusalOf, settledOf}
 use Rattle.exchange.specs.Step.{outcomeAt, tableAt, stepOutcome, stepTable}
 use Rattle.exchange.specs.Promises.{Held, Full, ReferenceIn, RightsIn, Faulty, heldCall, otherRows, tableRows, numberAt, Table, Refused, OneChanged, OnePlace, LiveAt, Lowest, Names, Named, OneSpent, Fourteen}
-use Rattle.exchange.specs.declared.table.Found.{Found}
-use Rattle.exchange.specs.declared.choice.Choice.{Choice}
-use Rattle.exchange.specs.declared.choice.Verdict.{Verdict}
+use Rattle.settling.specs.declared.look.Found.{Found}
+use Rattle.settling.specs.declared.choice.Choice.{Choice}
+use Rattle.settling.specs.declared.choice.Verdict.{Verdict}
 use Rattle.exchange.proofs.Counted.{both, and-true, clash, reference-in, in-reference, rights-in, in-rights, found-held, not-found, no-place, not-full, not-faulty, is-faulty, found-call, found-live, found-lowest}
 use Rattle.exchange.proofs.Within.{not-refused, same-chosen}
 

@@ -1,6 +1,5 @@
-pub mod Plan
-pub mod Choice
-pub mod Settle
+pub mod Halves
+pub mod Chosen
 pub mod Step
 pub mod Table
 pub mod Promises

@@ -5,10 +5,10 @@ use lib.ListN.{getD, set}
 use Rattle.call.specs.declared.Call.{Call}
 use Rattle.call.specs.declared.Event.{Event}
 use Rattle.call.specs.Sound.{freshCall}
-use Rattle.exchange.specs.declared.choice.Choice.{Choice}
-use Rattle.exchange.specs.declared.settle.Outcome.{Outcome}
-use Rattle.exchange.specs.Choice.{chosenOf}
-use Rattle.exchange.specs.Settle.{settledOf, refusalOf}
+use Rattle.settling.specs.declared.choice.Choice.{Choice}
+use Rattle.settling.specs.declared.settle.Outcome.{Outcome}
+use Rattle.exchange.specs.Chosen.{chosenOf}
+use Rattle.settling.specs.Settle.{settledOf, refusalOf}
 
 abbrev pub outcomeAt : List Call → Choice → Event → List ℕ → Outcome
 outcomeAt t (Choice.At i) e element = settledOf (getD t i freshCall) e element .outcome

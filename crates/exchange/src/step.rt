@@ -1,22 +1,22 @@
 // An event at a lent table.
 ghost use mathlib.Core.Path.{_≡_};
-ghost use Rattle.exchange.specs.Plan.{lookOf, committed};
+ghost use Rattle.exchange.specs.Halves.{lookOf, committed};
 ghost use Rattle.exchange.specs.Step.{stepOutcome, stepTable};
-use crate::choice::Choice;
-use crate::choice::chosen;
-use crate::plan::Looked;
-use crate::plan::Put;
-use crate::plan::barred;
-use crate::plan::met;
-use crate::plan::plans;
-use crate::plan::put_of;
-use crate::plan::record;
-use crate::plan::row;
-use crate::plan::told;
-use crate::settle::Outcome;
+use crate::chosen::chosen;
 use crate::table::get;
 use call::Call;
 use call::Event;
+use settling::choice::Choice;
+use settling::plan::Looked;
+use settling::plan::Put;
+use settling::plan::barred;
+use settling::plan::met;
+use settling::plan::plans;
+use settling::plan::put_of;
+use settling::plan::record;
+use settling::plan::row;
+use settling::plan::told;
+use settling::settle::Outcome;
 
 // What the table shows of an event.
 pub fn look(t: &[Call], reference: u16, event: Event) -> Looked

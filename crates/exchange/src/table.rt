@@ -4,52 +4,16 @@ ghost use mathlib.Core.Bool.{cond};
 ghost use Prim.Native.Nat.{_<_};
 ghost use lib.ListN.{length, getD, drop};
 ghost use Rattle.call.specs.Sound.{freshCall};
-ghost use Rattle.exchange.specs.Table.{liveAs, freeOf, findFrom, placeFrom, isAt, faultOf, laterOf, callsSound, tableSound};
+ghost use Rattle.exchange.specs.Table.{findFrom, placeFrom, callsSound, tableSound};
 use call::Call;
+use settling::look::Found;
+use settling::look::at_fault;
+use settling::look::is_free;
+use settling::look::is_live_as;
+use settling::look::later;
 
 // Records that a table has at most.
 pub const GREATEST_TABLE: usize = 32;
-
-// The place of a record, or that there is none.
-pub enum Found {
-    At(usize),
-    Nothing,
-}
-
-pub fn is_live_as(c: Call, reference: u16) -> bool
-    ensures { λ r. ⌜ r ≡ liveAs c reference ⌝ }
-{
-    c.live() & (c.reference == reference)
-}
-
-pub fn is_free(c: Call) -> bool
-    ensures { λ r. ⌜ r ≡ freeOf c ⌝ }
-{
-    !c.live()
-}
-
-pub fn is_at(f: Found) -> bool
-    ensures { λ r. ⌜ r ≡ isAt f ⌝ }
-{
-    match f {
-        Found::At(i) => true,
-        Found::Nothing => false,
-    }
-}
-
-// f: where a later live record has the reference of c.
-pub fn at_fault(c: Call, f: Found) -> bool
-    ensures { λ r. ⌜ r ≡ faultOf c f ⌝ }
-{
-    if c.sound() { is_at(f) } else { true }
-}
-
-// Where to look for another record of the same reference: nowhere, if the record is not live.
-pub fn later(c: Call, next: usize, end: usize) -> usize
-    ensures { λ r. ⌜ r ≡ laterOf c next end ⌝ }
-{
-    if c.live() { next } else { end }
-}
 
 pub(crate) fn get(t: &[Call], i: usize) -> Call
     requires { ⌜ i < length (now t) ⌝ }

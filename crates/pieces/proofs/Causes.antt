@@ -42,10 +42,10 @@ use Rattle.call.specs.Facility.{aboutThreeOf, passesFacilityOf, facilityOf}
 use Rattle.call.specs.Disconnect.{passedOnOf, disconnectOf, endsOf, releaseCompleteOf}
 use Rattle.call.specs.Tick.{readyOf, passesTickOf, tickOf}
 use Rattle.call.specs.Step.{notAnEventOf, stepOf}
-use Rattle.exchange.specs.declared.choice.Choice.{Choice}
-use Rattle.exchange.specs.declared.settle.Outcome.{Outcome}
-use Rattle.exchange.specs.Choice.{chosenOf}
-use Rattle.exchange.specs.Settle.{settledOf, refusalOf, outcomeOf as settledOutcome}
+use Rattle.settling.specs.declared.choice.Choice.{Choice}
+use Rattle.settling.specs.declared.settle.Outcome.{Outcome}
+use Rattle.exchange.specs.Chosen.{chosenOf}
+use Rattle.settling.specs.Settle.{settledOf, refusalOf, outcomeOf as settledOutcome}
 use Rattle.exchange.specs.Step.{outcomeAt, stepOutcome}
 use Rattle.pieces.proofs.Making.{by-cond}
 

@@ -18,8 +18,9 @@ use Rattle.call.specs.Setup.{setupPhaseOf, filledOf, toCallerOf, toCalledOf, se
 use Rattle.call.specs.Information.{metersOf}
 use Rattle.call.specs.Tick.{refillsOf, readyOf, runsOf, passesTickOf, tickOf}
 use Rattle.exchange.specs.Table.{tableSound}
-use Rattle.exchange.specs.Choice.{chooseOf, chosenOf}
-use Rattle.exchange.specs.Settle.{subjectOf, keptOf, outcomeOf, refusalOf, settledOf}
+use Rattle.exchange.specs.Chosen.{chosenOf}
+use Rattle.settling.specs.Choice.{chooseOf}
+use Rattle.settling.specs.Settle.{subjectOf, keptOf, outcomeOf, refusalOf, settledOf}
 use Rattle.exchange.specs.Step.{stepOutcome, stepTable}
 use Rattle.exchange.specs.Bridge.{turnedOf}
 use Rattle.body.specs.Kind.{kindOf}

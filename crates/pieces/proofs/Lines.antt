@@ -15,8 +15,8 @@ use Rattle.rules.specs.declared.message.Message.{Message}
 use Rattle.rules.specs.declared.message.Sent.{Sent}
 use Rattle.rules.specs.Answer.{numberOf}
 use Rattle.call.specs.declared.Call.{Call}
-use Rattle.exchange.specs.declared.choice.Verdict.{Verdict}
-use Rattle.exchange.specs.Choice.{verdictNumber}
+use Rattle.settling.specs.declared.choice.Verdict.{Verdict}
+use Rattle.settling.specs.Choice.{verdictNumber}
 use Rattle.exchange.specs.Bridge.{turnedOf}
 use Rattle.exchange.specs.Step.{stepOutcome}
 use Rattle.body.specs.declared.kind.Kind.{Kind}

@@ -7,9 +7,9 @@ use lib.ListN.{length, drop}
 use lib.Dec.{leb}
 use Rattle.room.specs.Room.{placed}
 use Rattle.call.specs.declared.Call.{Call}
-use Rattle.exchange.specs.declared.settle.Outcome.{Outcome}
+use Rattle.settling.specs.declared.settle.Outcome.{Outcome}
 use Rattle.exchange.specs.declared.bridge.Turned.{Turned}
-use Rattle.exchange.specs.Choice.{verdictNumber}
+use Rattle.settling.specs.Choice.{verdictNumber}
 use Rattle.exchange.specs.Bridge.{turnedOf}
 use Rattle.trace.specs.declared.reading.Entry.{Entry}
 use Rattle.trace.specs.declared.reading.Fault.{Fault}

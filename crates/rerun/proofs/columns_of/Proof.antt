@@ -4,7 +4,7 @@ use Rattle.rerun.proofs.columns_of.Statement.{statement}
 use Rattle.rerun.proofs.columns_of.Tie as tie
 use Rattle.rerun.proofs.columns_of.Reads as reads
 use Rattle.rerun.proofs.columns_of.Lts as lts
-use Rattle.exchange.proofs.choice.verdict_number.Reads as verdict-number-reads
+use Rattle.settling.proofs.choice.verdict_number.Reads as verdict-number-reads
 
 verdict-number-requires : tie.Need-verdict-number-requires
 verdict-number-requires c κs = search needs

@@ -49,37 +49,37 @@ use Rattle.call.proofs.Call as T
 use Rattle.call.proofs.Call.Laws as T′
 use Rattle.call.proofs.Event as E
 use Rattle.call.proofs.Event.Laws as E′
-use Rattle.exchange.specs.Choice.{chosenOf}
-use Rattle.exchange.specs.Plan.{lookAt, lookOf}
-use Rattle.exchange.specs.declared.choice.Choice.{Choice}
-use Rattle.exchange.specs.declared.choice.Choice.the-variants.{At, Refused}
-use Rattle.exchange.specs.declared.choice.Verdict.{Verdict}
-use Rattle.exchange.specs.declared.plan.Looked.{Looked}
+use Rattle.exchange.specs.Chosen.{chosenOf}
+use Rattle.exchange.specs.Halves.{lookAt, lookOf}
+use Rattle.settling.specs.declared.choice.Choice.{Choice}
+use Rattle.settling.specs.declared.choice.Choice.the-variants.{At, Refused}
+use Rattle.settling.specs.declared.choice.Verdict.{Verdict}
+use Rattle.settling.specs.declared.plan.Looked.{Looked}
 use Rattle.exchange.proofs.Arms.{assigns-on}
 use Rattle.meter.proofs.Plainly.{pre-plain, calls-told, calls-plain, leaves}
 use Rattle.exchange.proofs.Within.{chosen-within}
-use Rattle.exchange.proofs.plan.Looked as U
-use Rattle.exchange.proofs.plan.Looked.Laws as U′
-use Rattle.exchange.proofs.choice.Choice as R
-use Rattle.exchange.proofs.choice.Choice.Laws as R′
-use Rattle.exchange.proofs.choice.Verdict as N
-use Rattle.exchange.proofs.choice.Verdict.Laws as N′
-use Rattle.exchange.proofs.choice.chosen as g
-use Rattle.exchange.proofs.choice.chosen.Symbol as g-def
-use Rattle.exchange.proofs.choice.chosen.Symbol.{name as #g}
-use Rattle.exchange.proofs.choice.chosen.Met as g-thm
+use Rattle.settling.proofs.plan.Looked as U
+use Rattle.settling.proofs.plan.Looked.Laws as U′
+use Rattle.settling.proofs.choice.Choice as R
+use Rattle.settling.proofs.choice.Choice.Laws as R′
+use Rattle.settling.proofs.choice.Verdict as N
+use Rattle.settling.proofs.choice.Verdict.Laws as N′
+use Rattle.exchange.proofs.chosen.chosen as g
+use Rattle.exchange.proofs.chosen.chosen.Symbol as g-def
+use Rattle.exchange.proofs.chosen.chosen.Symbol.{name as #g}
+use Rattle.exchange.proofs.chosen.chosen.Met as g-thm
 use Rattle.exchange.proofs.table.get as p
 use Rattle.exchange.proofs.table.get.Symbol as p-def
 use Rattle.exchange.proofs.table.get.Symbol.{name as #p}
 use Rattle.exchange.proofs.table.get.Met as p-thm
-use Rattle.exchange.proofs.plan.met as d
-use Rattle.exchange.proofs.plan.met.Symbol as d-def
-use Rattle.exchange.proofs.plan.met.Symbol.{name as #d}
-use Rattle.exchange.proofs.plan.met.Met as d-thm
-use Rattle.exchange.proofs.plan.barred as m
-use Rattle.exchange.proofs.plan.barred.Symbol as m-def
-use Rattle.exchange.proofs.plan.barred.Symbol.{name as #m}
-use Rattle.exchange.proofs.plan.barred.Met as m-thm
+use Rattle.settling.proofs.plan.met as d
+use Rattle.settling.proofs.plan.met.Symbol as d-def
+use Rattle.settling.proofs.plan.met.Symbol.{name as #d}
+use Rattle.settling.proofs.plan.met.Met as d-thm
+use Rattle.settling.proofs.plan.barred as m
+use Rattle.settling.proofs.plan.barred.Symbol as m-def
+use Rattle.settling.proofs.plan.barred.Symbol.{name as #m}
+use Rattle.settling.proofs.plan.barred.Met as m-thm
 use Rattle.exchange.proofs.step.look.Key.{name as #f}
 use Rattle.exchange.proofs.step.look as f
 use Rattle.exchange.proofs.step.look.Statement as stated
@@ -271,7 +271,7 @@ look-spec 𝓤 H 𝓜 𝓖 𝓡 =
     entered 𝓤 H (tripleOf 𝓤 H (𝓖 .A) f.signature (f.spec 𝓤 H (𝓖 .A) (𝓜 .mem) (𝓡 .run)))
     (tables 𝓤 H 𝓜 𝓡 code.env .C) (tables 𝓤 H 𝓜 𝓡 code.env .Λ) #f code.function (code.unfolded 𝓤 H 𝓜 𝓡)
     (meets 𝓤 H (𝓖 .A) (givenOf 𝓤 H 𝓜 𝓖) (𝓜 .mem) (𝓡 .run) (tablesOf 𝓤 H 𝓜 (tables 𝓤 H 𝓜 𝓡 code.env))
-    (cited 𝓤 H (G 𝓤 H (𝓖 .A) (𝓜 .mem) (𝓡 .run)) 𝓜 𝓡 code.env #g g-def.routine code.calls-exchange·choice·chosen (g-thm.met 𝓤 H 𝓜 𝓖 𝓡))
+    (cited 𝓤 H (G 𝓤 H (𝓖 .A) (𝓜 .mem) (𝓡 .run)) 𝓜 𝓡 code.env #g g-def.routine code.calls-exchange·chosen·chosen (g-thm.met 𝓤 H 𝓜 𝓖 𝓡))
     (cited 𝓤 H (P 𝓤 H (𝓖 .A) (𝓜 .mem) (𝓡 .run)) 𝓜 𝓡 code.env #p p-def.routine code.calls-exchange·table·get (p-thm.met 𝓤 H 𝓜 𝓖 𝓡))
-    (cited 𝓤 H (D 𝓤 H (𝓖 .A) (𝓜 .mem) (𝓡 .run)) 𝓜 𝓡 code.env #d d-def.routine code.calls-exchange·plan·met (d-thm.met 𝓤 H 𝓜 𝓖 𝓡))
-    (cited 𝓤 H (L 𝓤 H (𝓖 .A) (𝓜 .mem) (𝓡 .run)) 𝓜 𝓡 code.env #m m-def.routine code.calls-exchange·plan·barred (m-thm.met 𝓤 H 𝓜 𝓖 𝓡)))
+    (cited 𝓤 H (D 𝓤 H (𝓖 .A) (𝓜 .mem) (𝓡 .run)) 𝓜 𝓡 code.env #d d-def.routine code.calls-settling·plan·met (d-thm.met 𝓤 H 𝓜 𝓖 𝓡))
+    (cited 𝓤 H (L 𝓤 H (𝓖 .A) (𝓜 .mem) (𝓡 .run)) 𝓜 𝓡 code.env #m m-def.routine code.calls-settling·plan·barred (m-thm.met 𝓤 H 𝓜 𝓖 𝓡)))

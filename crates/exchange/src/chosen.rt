@@ -1,0 +1,23 @@
+// Which record of a lent table an event goes to.
+ghost use mathlib.Core.Path.{_≡_};
+ghost use Rattle.exchange.specs.Chosen.{chosenOf};
+use crate::table::find;
+use crate::table::place;
+use crate::table::sound;
+use call::Call;
+use call::Event;
+use settling::choice::Choice;
+use settling::choice::choose;
+use settling::choice::reference_of;
+
+// What the table says of an event.
+pub fn chosen(t: &[Call], reference: u16, event: Event) -> Choice
+    ensures { λ r. ⌜ r ≡ chosenOf (now (t .entry)) reference event ⌝ }
+{
+    let named = reference_of(reference, event);
+    let whole = sound(t);
+    let held = find(t, named);
+    let free = place(t);
+    let c = choose(whole, event, held, free);
+    c
+}

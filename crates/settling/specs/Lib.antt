@@ -1,0 +1,4 @@
+pub mod Look
+pub mod Choice
+pub mod Settle
+pub mod Plan

@@ -1,0 +1,98 @@
+// What an event makes of the record that it goes to, by value.
+ghost use mathlib.Core.Path.{_≡_};
+ghost use Rattle.settling.specs.Settle.{subjectOf, changesOf, keptOf, outcomeOf, refusalOf, settledOf};
+use crate::choice::Verdict;
+use crate::choice::opens;
+use call::Call;
+use call::Event;
+use call::reply::Reply;
+use rules::answer::Answer;
+use rules::message::Sent;
+use service::element::Note;
+
+// calling and called: what is sent to the calling and to the called user.
+pub struct Outcome {
+    pub verdict: Verdict,
+    pub note: Note,
+    pub calling: Sent,
+    pub called: Sent,
+}
+
+// call: what the place holds afterwards.
+pub struct Settled {
+    pub call: Call,
+    pub outcome: Outcome,
+}
+
+// SETUP starts a new call, whatever its place held.
+pub fn subject(c: Call, event: Event) -> Call
+    ensures { λ r. ⌜ r ≡ subjectOf c event ⌝ }
+{
+    if opens(event) { Call::fresh() } else { c }
+}
+
+// Of the refusals, only 14 may change a record.
+pub fn changes(a: Answer) -> bool
+    ensures { λ r. ⌜ r ≡ changesOf a ⌝ }
+{
+    match a {
+        Answer::Taken => true,
+        Answer::OutOfPhase => false,
+        Answer::NotAnEvent => false,
+        Answer::NoService => false,
+        Answer::Spent => true,
+        Answer::NotOpen => false,
+        Answer::NotGranted => false,
+        Answer::BadElement => false,
+        Answer::AskedRequired => false,
+        Answer::OutOfRange => false,
+        Answer::Unsound => false,
+    }
+}
+
+// What a place that held c holds after the reply.
+pub fn kept(c: Call, r: Reply) -> Call
+    ensures { λ k. ⌜ k ≡ keptOf c r ⌝ }
+{
+    let next = r.call;
+    let a = r.answer;
+    if changes(a) { next } else { c }
+}
+
+pub fn answered(r: Reply) -> Outcome
+    ensures { λ o. ⌜ o ≡ outcomeOf r ⌝ }
+{
+    let a = r.answer;
+    let note = r.note;
+    let calling = r.calling;
+    let called = r.called;
+    Outcome {
+        verdict: Verdict::Heard(a),
+        note: note,
+        calling: calling,
+        called: called,
+    }
+}
+
+// A number of the table's: nothing is noted and nothing sent.
+pub fn refusal(v: Verdict) -> Outcome
+    ensures { λ o. ⌜ o ≡ refusalOf v ⌝ }
+{
+    Outcome {
+        verdict: v,
+        note: Note::Clear,
+        calling: Sent::Absent,
+        called: Sent::Absent,
+    }
+}
+
+pub fn settles(c: Call, event: Event, element: &[u8]) -> Settled
+    ensures { λ r. ⌜ r ≡ settledOf c event (now (element .entry)) ⌝ }
+{
+    let s = subject(c, event);
+    let r = s.step(event, element);
+    Settled {
+        call: kept(c, r),
+        outcome: answered(r),
+    }
+}
