@@ -7,6 +7,7 @@ use Rattle.rules.specs.Answer.{numberOf}
 use Rattle.call.specs.declared.Event.{Event}
 use Rattle.settling.specs.declared.choice.Verdict.{Verdict}
 use Rattle.settling.specs.declared.choice.Choice.{Choice}
+use Rattle.settling.specs.declared.choice.Wanted.{Wanted}
 use Rattle.settling.specs.declared.look.Found.{Found}
 
 -- the paper's number of each verdict
@@ -16,43 +17,40 @@ verdictNumber Verdict.NoPlace = 21
 verdictNumber Verdict.Held = 22
 verdictNumber Verdict.NoCall = 23
 
--- the reference that an event is about: SETUP has its own
+-- what an event wants of the table: SETUP a place under its own reference, with "reference or rights out of range" or not; others that of a live call
+abbrev pub wantedOf : Event → Wanted
+wantedOf (Event.Setup reference rights requests) = Wanted.New reference (referenceFitsOf reference && rightsFitOf rights)
+wantedOf (Event.Alerting answers) = Wanted.Old
+wantedOf (Event.Connect answers) = Wanted.Old
+wantedOf (Event.Information side more) = Wanted.Old
+wantedOf (Event.Facility side what) = Wanted.Old
+wantedOf (Event.Disconnect side cause answers) = Wanted.Old
+wantedOf (Event.ReleaseComplete side) = Wanted.Old
+wantedOf Event.Tick = Wanted.Old
+wantedOf Event.CallProceeding = Wanted.Old
+wantedOf Event.CongestionControl = Wanted.Old
+
+-- the reference that an event is about, beside which n stands: SETUP has its own
+abbrev pub ownOr : ℕ → Wanted → ℕ
+ownOr n (Wanted.New own ranged) = own
+ownOr n Wanted.Old = n
+
 abbrev pub referenceOf : ℕ → Event → ℕ
-referenceOf n (Event.Setup reference rights requests) = reference
-referenceOf n (Event.Alerting answers) = n
-referenceOf n (Event.Connect answers) = n
-referenceOf n (Event.Information side more) = n
-referenceOf n (Event.Facility side what) = n
-referenceOf n (Event.Disconnect side cause answers) = n
-referenceOf n (Event.ReleaseComplete side) = n
-referenceOf n Event.Tick = n
-referenceOf n Event.CallProceeding = n
-referenceOf n Event.CongestionControl = n
+referenceOf n e = ownOr n (wantedOf e)
+
+abbrev pub isNew : Wanted → Bool
+isNew (Wanted.New own ranged) = true
+isNew Wanted.Old = false
 
 abbrev pub opensOf : Event → Bool
-opensOf (Event.Setup reference rights requests) = true
-opensOf (Event.Alerting answers) = false
-opensOf (Event.Connect answers) = false
-opensOf (Event.Information side more) = false
-opensOf (Event.Facility side what) = false
-opensOf (Event.Disconnect side cause answers) = false
-opensOf (Event.ReleaseComplete side) = false
-opensOf Event.Tick = false
-opensOf Event.CallProceeding = false
-opensOf Event.CongestionControl = false
+opensOf e = isNew (wantedOf e)
 
--- "SETUP, reference or rights out of range"
+abbrev pub inRange : Wanted → Bool
+inRange (Wanted.New own ranged) = ranged
+inRange Wanted.Old = true
+
 abbrev pub rangedOf : Event → Bool
-rangedOf (Event.Setup reference rights requests) = referenceFitsOf reference && rightsFitOf rights
-rangedOf (Event.Alerting answers) = true
-rangedOf (Event.Connect answers) = true
-rangedOf (Event.Information side more) = true
-rangedOf (Event.Facility side what) = true
-rangedOf (Event.Disconnect side cause answers) = true
-rangedOf (Event.ReleaseComplete side) = true
-rangedOf Event.Tick = true
-rangedOf Event.CallProceeding = true
-rangedOf Event.CongestionControl = true
+rangedOf e = inRange (wantedOf e)
 
 -- "SETUP, reference held by a live call", then "SETUP, no free place"
 abbrev pub newPlaceOf : Found → Found → Choice

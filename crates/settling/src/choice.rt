@@ -1,6 +1,6 @@
 // Which record an event goes to, or the number that the table gives.
 ghost use mathlib.Core.Path.{_≡_};
-ghost use Rattle.settling.specs.Choice.{verdictNumber, referenceOf, opensOf, rangedOf, newPlaceOf, oldPlaceOf, chooseOf};
+ghost use Rattle.settling.specs.Choice.{verdictNumber, wantedOf, referenceOf, opensOf, rangedOf, newPlaceOf, oldPlaceOf, chooseOf};
 use crate::look::Found;
 use call::Event;
 use rules::answer::Answer;
@@ -32,29 +32,45 @@ pub fn verdict_number(v: Verdict) -> u8
     }
 }
 
-// The reference that an event is about: SETUP has its own.
-pub fn reference_of(reference: u16, event: Event) -> u16
-    ensures { λ r. ⌜ r ≡ referenceOf reference event ⌝ }
+// What an event wants of the table: SETUP a new place, under its own reference, with reference and rights in range or not; any
+// other event the place of a call that is there.
+pub enum Wanted {
+    New(u16, bool),
+    Old,
+}
+
+pub fn wants(event: Event) -> Wanted
+    ensures { λ r. ⌜ r ≡ wantedOf event ⌝ }
 {
     match event {
         Event::Setup {
-            reference: own,
+            reference,
             rights,
             requests,
-        } => own,
-        Event::Alerting { answers } => reference,
-        Event::Connect { answers } => reference,
-        Event::Information { side, more } => reference,
-        Event::Facility { side, what } => reference,
+        } => Wanted::New(reference, reference_fits(reference) & rights_fit(rights)),
+        Event::Alerting { answers } => Wanted::Old,
+        Event::Connect { answers } => Wanted::Old,
+        Event::Information { side, more } => Wanted::Old,
+        Event::Facility { side, what } => Wanted::Old,
         Event::Disconnect {
             side,
             cause,
             answers,
-        } => reference,
-        Event::ReleaseComplete { side } => reference,
-        Event::Tick => reference,
-        Event::CallProceeding => reference,
-        Event::CongestionControl => reference,
+        } => Wanted::Old,
+        Event::ReleaseComplete { side } => Wanted::Old,
+        Event::Tick => Wanted::Old,
+        Event::CallProceeding => Wanted::Old,
+        Event::CongestionControl => Wanted::Old,
+    }
+}
+
+// The reference that an event is about: SETUP has its own.
+pub fn reference_of(reference: u16, event: Event) -> u16
+    ensures { λ r. ⌜ r ≡ referenceOf reference event ⌝ }
+{
+    match wants(event) {
+        Wanted::New(own, ranged) => own,
+        Wanted::Old => reference,
     }
 }
 
@@ -62,25 +78,9 @@ pub fn reference_of(reference: u16, event: Event) -> u16
 pub fn opens(event: Event) -> bool
     ensures { λ r. ⌜ r ≡ opensOf event ⌝ }
 {
-    match event {
-        Event::Setup {
-            reference,
-            rights,
-            requests,
-        } => true,
-        Event::Alerting { answers } => false,
-        Event::Connect { answers } => false,
-        Event::Information { side, more } => false,
-        Event::Facility { side, what } => false,
-        Event::Disconnect {
-            side,
-            cause,
-            answers,
-        } => false,
-        Event::ReleaseComplete { side } => false,
-        Event::Tick => false,
-        Event::CallProceeding => false,
-        Event::CongestionControl => false,
+    match wants(event) {
+        Wanted::New(own, ranged) => true,
+        Wanted::Old => false,
     }
 }
 
@@ -88,25 +88,9 @@ pub fn opens(event: Event) -> bool
 pub fn ranged(event: Event) -> bool
     ensures { λ r. ⌜ r ≡ rangedOf event ⌝ }
 {
-    match event {
-        Event::Setup {
-            reference,
-            rights,
-            requests,
-        } => reference_fits(reference) & rights_fit(rights),
-        Event::Alerting { answers } => true,
-        Event::Connect { answers } => true,
-        Event::Information { side, more } => true,
-        Event::Facility { side, what } => true,
-        Event::Disconnect {
-            side,
-            cause,
-            answers,
-        } => true,
-        Event::ReleaseComplete { side } => true,
-        Event::Tick => true,
-        Event::CallProceeding => true,
-        Event::CongestionControl => true,
+    match wants(event) {
+        Wanted::New(own, ranged) => ranged,
+        Wanted::Old => true,
     }
 }
 

@@ -1,9 +1,15 @@
 use borrow.Author.Needs.{needs}
-use Rattle.settling.proofs.choice.opens.Statement.{statement}
-use Rattle.settling.proofs.choice.opens.Tie as tie
+use Rattle.settling.proofs.choice.wants.Statement.{statement}
+use Rattle.settling.proofs.choice.wants.Tie as tie
 
 enum-known-event : tie.Need-enum-known-event
 enum-known-event c = search needs
+
+reference-fits-requires : tie.Need-reference-fits-requires
+reference-fits-requires c κs = search needs
+
+rights-fit-requires : tie.Need-rights-fit-requires
+rights-fit-requires c κs = search needs
 
 enum-known-event-2 : tie.Need-enum-known-event-2
 enum-known-event-2 c = search needs
@@ -33,7 +39,7 @@ enum-told-3 : tie.Need-enum-told-3
 enum-told-3 c = search needs
 
 returns : tie.Need-returns
-returns c = simp (c .before .event .given .1)
+returns c = simp (c .rights-fit .ensures, c .before .reference-fits .ensures, c .before .before .before .event .given .1)
 
 returns-2 : tie.Need-returns-2
 returns-2 c = search needs
@@ -62,11 +68,13 @@ returns-9 c = search needs
 returns-10 : tie.Need-returns-10
 returns-10 c = search needs
 
-pub opens-spec : {M : Type 1} → statement M
-opens-spec =
+pub wants-spec : {M : Type 1} → statement M
+wants-spec =
     tie.close
     (tie.spec
     enum-known-event
+    reference-fits-requires
+    rights-fit-requires
     enum-known-event-2
     enum-known-event-3
     enum-known-event-4
