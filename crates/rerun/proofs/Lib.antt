@@ -1,1 +1,3 @@
+pub mod Lent
 pub mod Running
+pub mod Moving

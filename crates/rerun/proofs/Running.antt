@@ -1,18 +1,16 @@
 -- A piece that is being worked off: what is left of it makes up what the whole of it makes.
 use Prim.Native.Nat.{ℕ, zero, suc, _+_, _-_, _<_, _≤_}
 use mathlib.Core.List.{List, [], _++_, append-nil}
-use mathlib.Core.Bool.{Bool, true, false, cond}
+use mathlib.Core.Bool.{Bool, true, false, cond, true≢false}
 use mathlib.Core.Path.{_≡_, refl, sym, ap, _∙_}
 use native.Mathlib.Omega.{arith}
-use borrow.Author.Tests.{le-leb, lt-leb, ltb-false}
+use borrow.Author.Tests.{le-leb, lt-leb, ltb-true, ltb-false, leb-true, leb-false}
 use lib.Dec.{leb, ltb, eqb}
 use lib.ListN.{length, getD, take, drop, length-append, length-drop, drop-of-length-le}
 use lib.Seq.{drop-drop, take-at}
-use Rattle.room.specs.declared.Bar.{Bar}
-use Rattle.room.specs.declared.Wrote.{Wrote}
-use Rattle.room.specs.Room.{placed, Written}
+use Rattle.room.specs.Room.{placed}
 use Rattle.room.proofs.Pieces.{length-placed, placed-then}
-use Rattle.text.proofs.Pieced.{took, refused, no-piece}
+use Rattle.text.proofs.Pieced.{no-piece}
 use Rattle.call.specs.declared.Call.{Call}
 use Rattle.body.specs.declared.kind.Kind.{Kind}
 use Rattle.body.specs.declared.kind.Named.{Named}
@@ -20,15 +18,20 @@ use Rattle.trace.specs.declared.reading.Entry.{Entry}
 use Rattle.trace.specs.declared.reading.Fault.{Fault}
 use Rattle.trace.specs.declared.reading.Record.{Record}
 use Rattle.body.specs.Kind.{sizeOf, kindOf}
-use Rattle.trace.specs.Reading.{recordOf, namedOf, entryOf, rangedOf}
+use Rattle.trace.specs.Reading.{recordOf, namedOf, entryOf, rangedOf, elementOf}
 use Rattle.body.proofs.Sizes.{least}
 use Rattle.report.specs.Line.{lineOf}
 use Rattle.notices.specs.Notices.{faultLine}
 use Rattle.rerun.specs.declared.Front.{Front}
-use Rattle.rerun.specs.declared.Worked.{Worked}
-use Rattle.exchange.specs.declared.bridge.Turned.{Turned}
-use Rattle.report.specs.declared.Columns.{Columns}
-use Rattle.rerun.specs.Run.{heardOf, frontOf, turnedAt, columnsOf, lineAt, Ran, rests, ends, goes, turnOf, runIn, runOf, WorkedOff}
+use Rattle.rerun.specs.declared.Stand.{Stand}
+use Rattle.rerun.specs.declared.Move.{Move}
+use Rattle.settling.specs.declared.settle.Outcome.{Outcome}
+use Rattle.settling.specs.declared.plan.Looked.{Looked}
+use Rattle.exchange.specs.Halves.{lookOf, committed}
+use Rattle.exchange.proofs.Planned.{plan-told, plan-put}
+use Rattle.exchange.proofs.Promises.{one-place}
+use Rattle.rerun.specs.Run.{heardOf, frontOf, turnedAt, columnsOf, lineAt, Ran, rests, ends, goes, turnOf, runIn, runOf, soFar, WorkedOff}
+use Rattle.rerun.specs.Move.{referenceIn, eventIn, sizeIn, plannedAt, textIn, beginning, halts, moveIn, Moved}
 
 -- nothing stands at the front of no octets
 pub front-empty : (last : Bool) (c : List ℕ) (i : ℕ) → length c ≤ i → frontOf last (drop i c) ≡ Front.Waits
@@ -36,44 +39,45 @@ unfolding frontOf recordOf
 front-empty last c i h = rw (drop-of-length-le c {i = i} h)
 
 -- a whole record is no longer than the piece
-sized : Front → ℕ
-sized Front.Waits = 0
-sized (Front.Faulty f) = 0
-sized (Front.Whole e) = sizeOf (e .kind)
-
 module _ (last : Bool) (t : List ℕ) where
-  cut-short : (b : Bool) → sized (cond b (Front.Faulty Fault.Short) Front.Waits) ≤ length t
-  unfolding sized
+  cut-short : (b : Bool) → sizeIn (cond b (Front.Faulty Fault.Short) Front.Waits) ≤ length t
   cut-short true = omega arith
   cut-short false = omega arith
 
-  of-kind : (k : Kind) (a b : Bool) → ltb (length t) (sizeOf k) ≡ a → sized (heardOf last (cond a (Record.Refused Fault.Short) (cond b (Record.Taken (entryOf k t)) (Record.Refused Fault.Range)))) ≤ length t
-  unfolding sized entryOf
+  of-kind : (k : Kind) (a b : Bool) → ltb (length t) (sizeOf k) ≡ a → sizeIn (heardOf last (cond a (Record.Refused Fault.Short) (cond b (Record.Taken (entryOf k t)) (Record.Refused Fault.Range)))) ≤ length t
+  unfolding entryOf
   of-kind k true b s = cut-short last
   of-kind k false true s = ltb-false (length t) (sizeOf k) s
   of-kind k false false s = omega arith
 
-  of-named : (n : Named) → sized (heardOf last (namedOf n t)) ≤ length t
-  unfolding sized
+  of-named : (n : Named) → sizeIn (heardOf last (namedOf n t)) ≤ length t
   of-named Named.Unknown = omega arith
   of-named (Named.Known k) = of-kind k (ltb (length t) (sizeOf k)) (rangedOf k t) refl
 
-  of-record : (b : Bool) → sized (heardOf last (cond b Record.End (namedOf (kindOf (getD t 0 0)) t))) ≤ length t
-  unfolding sized
+  of-record : (b : Bool) → sizeIn (heardOf last (cond b Record.End (namedOf (kindOf (getD t 0 0)) t))) ≤ length t
   of-record true = omega arith
   of-record false = of-named (kindOf (getD t 0 0))
 
-  fits : sized (frontOf last t) ≤ length t
+  fits : sizeIn (frontOf last t) ≤ length t
   unfolding frontOf recordOf
   fits = of-record (eqb (length t) 0)
 
-pub whole-fits : (last : Bool) (c : List ℕ) (i : ℕ) {e : Entry} → frontOf last (drop i c) ≡ Front.Whole e → sizeOf (e .kind) ≤ length c - i
-unfolding sized
+pub front-fits : (last : Bool) (c : List ℕ) (i : ℕ) → i ≤ length c → i + sizeIn (frontOf last (drop i c)) ≤ length c
+front-fits last c i h = let f = fits last (drop i c) in omega (arith, rw length-drop at f)
+
+whole-fits : (last : Bool) (c : List ℕ) (i : ℕ) {e : Entry} → frontOf last (drop i c) ≡ Front.Whole e → sizeOf (e .kind) ≤ length c - i
 whole-fits last c i h = rw (h, length-drop) at (fits last (drop i c))
 
--- a whole record has octets
-pub whole-least : (last : Bool) (c : List ℕ) (i : ℕ) {e : Entry} → frontOf last (drop i c) ≡ Front.Whole e → 3 ≤ sizeOf (e .kind)
-whole-least last c i {e} h = least (e .kind)
+-- a fault stands in front of something
+at-end : {f : Fault} (t : Bool) (last : Bool) (c : List ℕ) (i : ℕ) → ltb i (length c) ≡ t → frontOf last (drop i c) ≡ Front.Faulty f → i < length c
+at-end true last c i e h = ltb-true _ _ e
+at-end false last c i e h =
+    let w = front-empty last c i (ltb-false _ _ e) in
+    let z : _≡_ {A = ℕ} 0 1 = cc in
+    absurd (omega arith)
+
+faulty-some : (last : Bool) (c : List ℕ) (i : ℕ) {f : Fault} → frontOf last (drop i c) ≡ Front.Faulty f → i < length c
+faulty-some last c i h = at-end (ltb i (length c)) last c i refl h
 
 module _ (explained last : Bool) (room : ℕ) (table : List Call) (t : List ℕ) where
   run-waits : (fuel : ℕ) → frontOf last t ≡ Front.Waits → runIn fuel explained last room table t ≡ rests table
@@ -147,29 +151,27 @@ module _ (explained last : Bool) (first : List Call) (c l : List ℕ) (table : L
   pub stop-waits : Goes explained last first c l table out i k → frontOf last (drop i c) ≡ Front.Waits → WorkedOff explained last first c l out (record { calls = table; used = i; wrote = k; ended = false })
   stop-waits s h = stop (s .fuel) (s .going) (run-waits explained last (length out - k) table (drop i c) (s .fuel) h)
 
-  module _ {f : Fault} (s : Goes explained last first c l table out i k) (more : i < length c) (faulty : frontOf last (drop i c) ≡ Front.Faulty f) where
+  module _ {f : Fault} (s : Goes explained last first c l table out i k) (faulty : frontOf last (drop i c) ≡ Front.Faulty f) where
     turns : toCome (s .fuel) ≡ cond (leb (length (faultLine f)) (length out - k)) (ends table f) (rests table)
-    turns = run-faulty explained last (length out - k) table (drop i c) (s .fuel) (omega (arith, s .going .enough)) faulty
+    turns = let h = faulty-some last c i faulty in run-faulty explained last (length out - k) table (drop i c) (s .fuel) (omega (arith, s .going .enough)) faulty
 
-    pub fault-full : {b : Bar} {out' : List ℕ} → Written true k (faultLine f) out out' (Wrote.Refused b) → WorkedOff explained last first c l out' (record { calls = table; used = i; wrote = k; ended = false })
-    fault-full w =
-        let r = refused w in
+    fault-full : length out < k + length (faultLine f) → WorkedOff explained last first c l out (record { calls = table; used = i; wrote = k; ended = false })
+    fault-full r =
         let g = s .going in
-        let t = lt-leb (length (faultLine f)) (length out - k) (omega (arith, g .room, r .0)) in
-        rw (r .1) (stop (s .fuel) g (turns ∙ ap (λ (b : Bool). cond b (ends table f) (rests table)) t))
+        let t = lt-leb (length (faultLine f)) (length out - k) (omega (arith, g .room, r)) in
+        stop (s .fuel) g (turns ∙ ap (λ (b : Bool). cond b (ends table f) (rests table)) t)
 
-    pub fault-put : {e : ℕ} {out' : List ℕ} → Written true k (faultLine f) out out' (Wrote.To e) → WorkedOff explained last first c l out' (record { calls = table; used = i; wrote = e; ended = true })
-    fault-put {e} {out'} w =
-        let r = took w in
+    fault-put : k + length (faultLine f) ≤ length out → WorkedOff explained last first c l (placed k (faultLine f) out) (record { calls = table; used = i; wrote = k + length (faultLine f); ended = true })
+    fault-put r =
         let g = s .going in
-        let t = le-leb (length (faultLine f)) (length out - k) (omega (arith, r .0)) in
+        let t = le-leb (length (faultLine f)) (length out - k) (omega (arith, r)) in
         let u : toCome (s .fuel) ≡ ends table f = turns ∙ ap (λ (b : Bool). cond b (ends table f) (rests table)) t in
         record {
           calls = rw u at (g .calls);
           used = omega (arith, rw u at (g .used));
-          wrote = r .1 ∙ (rw u at (g .wrote));
+          wrote = rw u at (g .wrote);
           ended = rw u at (g .ended);
-          buffer = r .2 ∙ (rw u at (g .buffer));
+          buffer = rw u at (g .buffer);
         }
 
   module _ (e : Entry) (whole : frontOf last (drop i c) ≡ Front.Whole e) where
@@ -182,78 +184,139 @@ module _ (explained last : Bool) (first : List Call) (c l : List ℕ) (table : L
     chosen : Bool → ℕ → Ran
     chosen b fuel = cond b (goes (sizeOf (e .kind)) line (later fuel)) (rests table)
 
-    line-full : {b : Bar} {out' : List ℕ} (fuel : ℕ) → Going explained last first c l fuel table out i k → Written true k line out out' (Wrote.Refused b) → WorkedOff explained last first c l out' (record { calls = table; used = i; wrote = k; ended = false })
+    line-full : (fuel : ℕ) → Going explained last first c l fuel table out i k → length out < k + length line → WorkedOff explained last first c l out (record { calls = table; used = i; wrote = k; ended = false })
     unfolding chosen
-    line-full zero g w =
+    line-full zero g r =
         let n = whole-fits last c i whole in
         absurd (omega (arith, g .enough, least (e .kind)))
-    line-full (suc fuel) g w =
-        let r = refused w in
-        let t = lt-leb (length line) (length out - k) (omega (arith, g .room, r .0)) in
-        rw (r .1) (stop (suc fuel) g (run-whole explained last (length out - k) table (drop i c) fuel whole ∙ ap (λ (b : Bool). chosen b fuel) t))
+    line-full (suc fuel) g r =
+        let t = lt-leb (length line) (length out - k) (omega (arith, g .room, r)) in
+        stop (suc fuel) g (run-whole explained last (length out - k) table (drop i c) fuel whole ∙ ap (λ (b : Bool). chosen b fuel) t)
 
-    module _ {end : ℕ} {out' : List ℕ} (w : Written true k line out out' (Wrote.To end)) where
-      as-long : length out' ≡ length out
-      as-long = rw (took w .2) (length-placed k line out (took w .0))
+    module _ (r : k + length line ≤ length out) where
+      as-long : length (placed k line out) ≡ length out
+      as-long = length-placed k line out r
 
-      then-placed : (q : List ℕ) → placed end q out' ≡ placed k (line ++ q) out
-      then-placed q = let r = took w in rw (r .1, r .2, placed-then k line out (r .0) q)
-
-      next : (fuel : ℕ) → toCome (suc fuel) ≡ goes (sizeOf (e .kind)) line (runIn fuel explained last (length out' - end) (turnedAt table e (drop i c) .calls) (drop (i + sizeOf (e .kind)) c))
+      next : (fuel : ℕ) → toCome (suc fuel) ≡ goes (sizeOf (e .kind)) line (runIn fuel explained last (length (placed k line out) - (k + length line)) (turnedAt table e (drop i c) .calls) (drop (i + sizeOf (e .kind)) c))
       unfolding chosen
       next fuel =
-          let r = took w in
           let a = as-long in
-          let t = le-leb (length line) (length out - k) (omega (arith, r .0)) in
-          let left : length out - k - length line ≡ length out' - end = omega (arith, r .1) in
+          let t = le-leb (length line) (length out - k) (omega (arith, r)) in
+          let left : length out - k - length line ≡ length (placed k line out) - (k + length line) = omega arith in
           run-whole explained last (length out - k) table (drop i c) fuel whole ∙ ap (λ (b : Bool). chosen b fuel) t ∙ rw (left, drop-drop (sizeOf (e .kind)) i c)
 
-      line-put : (fuel : ℕ) → Going explained last first c l fuel table out i k → Goes explained last first c l (turnedAt table e (drop i c) .calls) out' (i + sizeOf (e .kind)) end
+      line-put : (fuel : ℕ) → Going explained last first c l fuel table out i k → Goes explained last first c l (turnedAt table e (drop i c) .calls) (placed k line out) (i + sizeOf (e .kind)) (k + length line)
       line-put zero g =
           let n = whole-fits last c i whole in
           absurd (omega (arith, g .enough, least (e .kind)))
       line-put (suc f) g =
           let n = whole-fits last c i whole in
-          let r = took w in
           let a = as-long in
           record {
             fuel = f;
             going =
                 record {
                   within = omega (arith, g .within);
-                  room = omega (arith, r .0, r .1);
+                  room = omega (arith, r);
                   long = a ∙ g .long;
                   enough = omega (arith, g .enough, least (e .kind));
                   calls = rw (next f) at (g .calls);
                   used = omega (arith, rw (next f) at (g .used));
-                  wrote = omega (arith, r .1, simp length-append at (rw (next f) at (g .wrote)));
+                  wrote = omega (arith, simp length-append at (rw (next f) at (g .wrote)));
                   ended = rw (next f) at (g .ended);
-                  buffer = then-placed (runIn f explained last (length out' - end) (turnedAt table e (drop i c) .calls) (drop (i + sizeOf (e .kind)) c) .text) ∙ (rw (next f) at (g .buffer));
+                  buffer = placed-then k line out r (runIn f explained last (length (placed k line out) - (k + length line)) (turnedAt table e (drop i c) .calls) (drop (i + sizeOf (e .kind)) c) .text) ∙ (rw (next f) at (g .buffer));
                 };
           }
 
-    -- the line as the code has it: of the columns of what the table answered
-    module _ (s : Goes explained last first c l table out i k) (t : Turned) (turned : t ≡ turnedAt table e (drop i c)) (cs : Columns) (columns : cs ≡ columnsOf e (t .outcome)) where
-      line-is : lineOf explained cs ≡ line
-      unfolding lineAt
-      line-is = rw (columns, turned)
-
-      pub stop-full : {b : Bar} {out' : List ℕ} → Written true k (lineOf explained cs) out out' (Wrote.Refused b) → WorkedOff explained last first c l out' (record { calls = table; used = i; wrote = k; ended = false })
-      stop-full w = line-full (s .fuel) (s .going) (rw line-is at w)
-
-      pub go-on : {n end : ℕ} {out' : List ℕ} → n ≡ sizeOf (e .kind) → Written true k (lineOf explained cs) out out' (Wrote.To end) → Goes explained last first c l (t .calls) out' (i + n) end
-      go-on h w = rw (h, turned) (line-put (rw line-is at w) (s .fuel) (s .going))
-
 -- the rest of the piece, as the code lends it on
-rest-is : (c : List ℕ) (i : ℕ) → take (length c - i) (drop i c) ≡ drop i c
+pub rest-is : (c : List ℕ) (i : ℕ) → take (length c - i) (drop i c) ≡ drop i c
 rest-is c i = ap (λ (l : List ℕ). take (length c - i) l) (sym (append-nil (drop i c))) ∙ take-at (drop i c) [] (length c - i) (rw length-drop)
 
-pub at-front : (last : Bool) (c : List ℕ) (i : ℕ) {r x : Front} → r ≡ frontOf last (take (length c - i) (drop i c)) → r ≡ x → frontOf last (drop i c) ≡ x
-at-front last c i h k = rw (rest-is c i) at (sym h ∙ k)
+-- ---- turn by turn: a run that goes on makes up what the whole piece makes, and one that does not has made it
+pub record Kept (explained last : Bool) (first : List Call) (c l : List ℕ) (s : Stand) (table : List Call) (out : List ℕ) : Type 0 where
+  pub same : length table ≡ length first
+  pub long : length out ≡ length l
+  pub going : s .more ≡ true → Goes explained last first c l table out (s .used) (s .wrote)
+  pub over : s .more ≡ false → WorkedOff explained last first c l out (soFar table (s .used) (s .wrote) (s .ended))
 
-pub at-turn : (table : List Call) (e : Entry) (c : List ℕ) (i : ℕ) {t : Turned} → t ≡ turnedAt table e (take (length c - i) (drop i c)) → t ≡ turnedAt table e (drop i c)
-at-turn table e c i h = rw (rest-is c i) at h
+-- how much is left: less after each turn
+abbrev pub leftOf : List ℕ → Stand → ℕ
+leftOf c s = cond (s .more) (suc (length c - s .used)) 0
 
--- what the code answers
-pub told : {explained last : Bool} {first : List Call} {c l l' : List ℕ} {r s : Worked} → r ≡ s → WorkedOff explained last first c l l' s → WorkedOff explained last first c l l' r
-told h w = rw h w
+pub starts : (explained last : Bool) (first : List Call) (c l : List ℕ) → Kept explained last first c l beginning first l
+starts explained last first c l = record { same = refl; long = refl; going = λ _. start explained last first c l; over = λ e. absurd (true≢false e) }
+
+module _ (explained last : Bool) (first : List Call) (c l : List ℕ) (s : Stand) (table : List Call) (out : List ℕ) (kept : Kept explained last first c l s table out) (more : s .more ≡ true) where
+  abbrev t : List ℕ
+  t = drop (s .used) c
+
+  abbrev goes-on : Goes explained last first c l table out (s .used) (s .wrote)
+  goes-on = kept .going more
+
+  -- what one turn comes to
+  pub record Onward (out' : List ℕ) (m : Move) : Type 0 where
+    pub kept' : Kept explained last first c l (m .stand) (committed table (m .put)) out'
+    pub less : leftOf c (m .stand) < leftOf c s
+
+  some-left : 0 < leftOf c s
+  some-left = rw more (omega arith)
+
+  halted : WorkedOff explained last first c l out (soFar table (s .used) (s .wrote) false) → Onward out (halts s)
+  halted w = record { kept' = record { same = kept .same; long = kept .long; going = λ e. absurd (true≢false (sym e)); over = λ _. w }; less = some-left }
+
+  shown : (e : Entry) → plannedAt (lookOf table (e .reference) (e .event)) e t .outcome ≡ turnedAt table e t .outcome
+  unfolding plannedAt turnedAt
+  shown e = plan-told table (e .reference) (e .event) (elementOf e t)
+
+  left-so : (e : Entry) → committed table (plannedAt (lookOf table (e .reference) (e .event)) e t .put) ≡ turnedAt table e t .calls
+  unfolding plannedAt turnedAt
+  left-so e = plan-put table (e .reference) (e .event) (elementOf e t)
+
+  line-so : (e : Entry) → textIn explained (Front.Whole e) (lookOf table (e .reference) (e .event)) t ≡ lineAt explained table e t
+  unfolding lineAt
+  line-so e = ap (λ (o : Outcome). lineOf explained (columnsOf e o)) (shown e)
+
+  same-so : (e : Entry) → length (turnedAt table e t .calls) ≡ length first
+  unfolding turnedAt
+  same-so e = one-place table (e .reference) (e .event) (elementOf e t) .same ∙ kept .same
+
+  abbrev turned : Front → Bool → Move
+  turned f b = cond b (moveIn f (lookOf table (referenceIn f) (eventIn f)) t (length (textIn explained f (lookOf table (referenceIn f) (eventIn f)) t)) s) (halts s)
+
+  abbrev left : Front → Bool → List ℕ
+  left f b = cond b (placed (s .wrote) (textIn explained f (lookOf table (referenceIn f) (eventIn f)) t) out) out
+
+  turn-by : (f : Front) (b : Bool) → frontOf last t ≡ f → leb (s .wrote + length (textIn explained f (lookOf table (referenceIn f) (eventIn f)) t)) (length out) ≡ b → Onward (left f b) (turned f b)
+  turn-by Front.Waits true h r = rw (sym (no-piece {at = s .wrote} {l = out} .octets)) (halted (stop-waits explained last first c l table out (s .used) (s .wrote) goes-on h))
+  turn-by Front.Waits false h r = halted (stop-waits explained last first c l table out (s .used) (s .wrote) goes-on h)
+  turn-by (Front.Faulty f) true h r =
+      let n = leb-true _ _ r in
+      record {
+        kept' =
+            record {
+              same = kept .same;
+              long = length-placed (s .wrote) (faultLine f) out n ∙ kept .long;
+              going = λ e. absurd (true≢false (sym e));
+              over = λ _. fault-put explained last first c l table out (s .used) (s .wrote) goes-on h n;
+            };
+        less = some-left;
+      }
+  turn-by (Front.Faulty f) false h r = halted (fault-full explained last first c l table out (s .used) (s .wrote) goes-on h (leb-false _ _ r))
+  turn-by (Front.Whole e) true h r =
+      let n = leb-true _ _ (rw (line-so e) at r) in
+      let w = whole-fits last c (s .used) h in
+      record {
+        kept' =
+            record {
+              same = rw (left-so e) (same-so e);
+              long = rw (line-so e) (length-placed (s .wrote) (lineAt explained table e t) out n ∙ kept .long);
+              going = λ _. rw (left-so e, line-so e) (line-put explained last first c l table out (s .used) (s .wrote) e h n (goes-on .fuel) (goes-on .going));
+              over = λ e. absurd (true≢false e);
+            };
+        less = rw more (omega (arith, least (e .kind)));
+      }
+  turn-by (Front.Whole e) false h r = halted (line-full explained last first c l table out (s .used) (s .wrote) e h (goes-on .fuel) (goes-on .going) (leb-false _ _ (rw (line-so e) at r)))
+
+  pub turns-on : {f : Front} {k : Looked} {out' : List ℕ} {m : Move} → f ≡ frontOf last t → k ≡ lookOf table (referenceIn f) (eventIn f) → Moved explained f k t s out out' m → Onward out' m
+  turns-on {f} {k} ef ek w =
+      rw (w .turn, w .buffer, ek) (turn-by f (leb (s .wrote + length (textIn explained f (lookOf table (referenceIn f) (eventIn f)) t)) (length out)) (sym ef) refl)

@@ -8,9 +8,8 @@ use lib.Dec.{leb}
 use Rattle.room.specs.Room.{placed}
 use Rattle.call.specs.declared.Call.{Call}
 use Rattle.settling.specs.declared.settle.Outcome.{Outcome}
-use Rattle.exchange.specs.declared.bridge.Turned.{Turned}
 use Rattle.settling.specs.Choice.{verdictNumber}
-use Rattle.exchange.specs.Bridge.{turnedOf}
+use Rattle.exchange.specs.Step.{stepOutcome, stepTable}
 use Rattle.trace.specs.declared.reading.Entry.{Entry}
 use Rattle.trace.specs.declared.reading.Fault.{Fault}
 use Rattle.trace.specs.declared.reading.Record.{Record}
@@ -34,9 +33,18 @@ heardOf last (Record.Refused Fault.Range) = Front.Faulty Fault.Range
 unfoldable pub frontOf : Bool → List ℕ → Front
 frontOf last t = heardOf last (recordOf t)
 
+-- the table that an event leaves, and what it is answered
+pub record Turned : Type 0 where
+  pub calls : List Call
+  pub outcome : Outcome
+
 -- the record's event at the table: its element is a part of the piece
 unfoldable pub turnedAt : List Call → Entry → List ℕ → Turned
-turnedAt calls e t = turnedOf calls (e .reference) (e .event) (elementOf e t)
+turnedAt calls e t =
+    record {
+      calls = stepTable calls (e .reference) (e .event) (elementOf e t);
+      outcome = stepOutcome calls (e .reference) (e .event) (elementOf e t);
+    }
 
 -- `kind ref answer note calling called`
 unfoldable pub columnsOf : Entry → Outcome → Columns

@@ -1,15 +1,24 @@
 // A trace, worked off piece by piece: each record at a table of calls, and a line of it.
 ghost use mathlib.Core.Path.{_≡_};
-ghost use Rattle.rerun.specs.Run.{heardOf, frontOf, turnedAt, columnsOf, soFar, WorkedOff};
+ghost use mathlib.Core.Bool.{false};
+ghost use Prim.Native.Nat.{_+_, _≤_};
+ghost use lib.ListN.{length, drop};
+ghost use Rattle.rerun.specs.Run.{heardOf, frontOf, columnsOf, soFar, WorkedOff};
+ghost use Rattle.rerun.specs.Move.{referenceIn, eventIn, sizeIn, plannedAt, moveTo, beginning, Moved};
 use body::kind::size;
 use call::Call;
-use exchange::bridge::Turned;
-use exchange::bridge::step_in;
+use call::Event;
+use exchange::step::commit;
+use exchange::step::look;
 use notices::write_fault;
 use report::Columns;
 use report::write_line;
 use room::Wrote;
 use settling::choice::verdict_number;
+use settling::plan::Looked;
+use settling::plan::Plan;
+use settling::plan::Put;
+use settling::plan::plans;
 use settling::settle::Outcome;
 use trace::reading::Entry;
 use trace::reading::Fault;
@@ -30,6 +39,20 @@ pub struct Worked {
     pub used: usize,
     pub wrote: usize,
     pub ended: bool,
+}
+
+// Where a run stands: used, wrote and ended as above; more: whether it goes on.
+pub struct Stand {
+    pub used: usize,
+    pub wrote: usize,
+    pub ended: bool,
+    pub more: bool,
+}
+
+// One turn of a run: what is put into the table, and where the run then stands.
+struct Move {
+    put: Put,
+    stand: Stand,
 }
 
 fn heard(last: bool, r: Record) -> Front
@@ -58,13 +81,45 @@ fn front_of(last: bool, t: &[u8]) -> Front
     heard(last, read_record(t))
 }
 
-// The record's event at the table, which is copied in and out.
-fn turn(calls: [Call; 32], e: Entry, t: &[u8]) -> Turned
-    ensures { λ r. ⌜ r ≡ turnedAt calls e (now (t .entry)) ⌝ }
+// The front of what is left of the piece.
+fn front_at(last: bool, piece: &[u8], s: Stand) -> Front
+    ensures { λ f. ⌜ f ≡ frontOf last (drop (s .used) (now (piece .entry))) ⌝ }
 {
-    let reference = e.reference;
+    let i = s.used;
+    if i <= piece.len() {
+        front_of(last, &piece[i..])
+    } else {
+        Front::Waits
+    }
+}
+
+// What the front asks of the table: where there is no whole record, something that is not heeded.
+fn reference_in(f: Front) -> u16
+    ensures { λ r. ⌜ r ≡ referenceIn f ⌝ }
+{
+    match f {
+        Front::Waits => 0,
+        Front::Faulty(x) => 0,
+        Front::Whole(e) => e.reference,
+    }
+}
+
+fn event_in(f: Front) -> Event
+    ensures { λ r. ⌜ r ≡ eventIn f ⌝ }
+{
+    match f {
+        Front::Waits => Event::Tick,
+        Front::Faulty(x) => Event::Tick,
+        Front::Whole(e) => e.event,
+    }
+}
+
+// The record's event, at what the table shows of it.
+fn planned(l: Looked, e: Entry, t: &[u8]) -> Plan
+    ensures { λ r. ⌜ r ≡ plannedAt l e (now (t .entry)) ⌝ }
+{
     let event = e.event;
-    step_in(calls, reference, event, element(t, e))
+    plans(l, event, element(t, e))
 }
 
 fn columns_of(e: Entry, o: Outcome) -> Columns
@@ -87,21 +142,119 @@ fn columns_of(e: Entry, o: Outcome) -> Columns
     }
 }
 
-// Where the run stands.
-fn so_far(calls: [Call; 32], used: usize, wrote: usize, ended: bool) -> Worked
-    ensures { λ r. ⌜ r ≡ soFar calls used wrote ended ⌝ }
+fn moves(put: Put, used: usize, wrote: usize, ended: bool, more: bool) -> Move
+    ensures { λ r. ⌜ r ≡ moveTo put used wrote ended more ⌝ }
 {
-    Worked {
-        calls: calls,
-        used: used,
-        wrote: wrote,
-        ended: ended,
+    Move {
+        put: put,
+        stand: Stand {
+            used: used,
+            wrote: wrote,
+            ended: ended,
+            more: more,
+        },
     }
 }
 
-// Works off the records at the front of a piece of trace: as many as are whole and have lines that fit the buffer, up to a
-// fault. The table goes in and comes out by value, once a piece. last: nothing comes after the piece. What was not used is
-// the front of the next piece.
+// One turn: prints the front's line, if it fits, and only then has something put into the table.
+fn decide(piece: &[u8], f: Front, l: Looked, explained: bool, out: &mut [u8], s: Stand) -> Move
+    requires { ⌜ s .used + sizeIn f ≤ length (now piece) ⌝ }
+    ensures { λ r. ⌜ Moved explained f l (drop (s .used) (now (piece .entry))) s (now (out .entry)) (now (out .exit)) r ⌝ }
+{
+    let i = s.used;
+    let k = s.wrote;
+    match f {
+        Front::Waits => moves(Put::Nothing, i, k, false, false),
+        Front::Faulty(x) => match write_fault(out, k, x) {
+            Wrote::Refused(_) => moves(Put::Nothing, i, k, false, false),
+            Wrote::To(end) => moves(Put::Nothing, i, end, true, false),
+        },
+        Front::Whole(e) => {
+            let kind = e.kind;
+            let n = size(kind);
+            let next = i + n;
+            let p = planned(l, e, &piece[i..]);
+            let outcome = p.outcome;
+            let put = p.put;
+            let columns = columns_of(e, outcome);
+            match write_line(out, k, explained, columns) {
+                Wrote::Refused(_) => moves(Put::Nothing, i, k, false, false),
+                Wrote::To(end) => moves(put, next, end, false, true),
+            }
+        }
+    }
+}
+
+// The two parts of a turn.
+fn put_in(m: Move) -> Put
+    ensures { λ r. ⌜ r ≡ m .put ⌝ }
+{
+    m.put
+}
+
+fn stand_in(m: Move) -> Stand
+    ensures { λ r. ⌜ r ≡ m .stand ⌝ }
+{
+    m.stand
+}
+
+// Nothing is used and nothing printed.
+fn at_start() -> Stand
+    ensures { λ r. ⌜ r ≡ beginning ⌝ }
+{
+    Stand {
+        used: 0,
+        wrote: 0,
+        ended: false,
+        more: true,
+    }
+}
+
+fn goes_on(s: Stand) -> bool
+    ensures { λ r. ⌜ r ≡ s .more ⌝ }
+{
+    s.more
+}
+
+fn so_far(calls: [Call; 32], s: Stand) -> Worked
+    ensures { λ r. ⌜ r ≡ soFar calls (s .used) (s .wrote) (s .ended) ⌝ }
+{
+    Worked {
+        calls: calls,
+        used: s.used,
+        wrote: s.wrote,
+        ended: s.ended,
+    }
+}
+
+// Works off the records at the front of a piece of trace, at a table that is lent for the whole of it: as many as are whole
+// and have lines that fit the buffer, up to a fault. last: nothing comes after the piece. What was not used is the front of
+// the next piece.
+pub fn work_off_at(
+    t: &mut [Call],
+    piece: &[u8],
+    last: bool,
+    explained: bool,
+    out: &mut [u8],
+) -> Stand
+    ensures { λ r. ⌜ WorkedOff explained last (now (t .entry)) (now (piece .entry)) (now (out .entry)) (now (out .exit)) (soFar (now (t .exit)) (r .used) (r .wrote) (r .ended)) × (r .more ≡ false) ⌝ }
+{
+    let mut s = at_start();
+    while goes_on(s) {
+        let f = front_at(last, piece, s);
+        let n = reference_in(f);
+        let e = event_in(f);
+        let l = look(&*t, n, e);
+        let m = decide(piece, f, l, explained, out, s);
+        let p = put_in(m);
+        commit(t, p);
+        let next = stand_in(m);
+        s = next;
+    }
+    s
+}
+
+// The same for a table by value, which goes in and comes out once a piece.
 pub fn work_off(
     calls: [Call; 32],
     piece: &[u8],
@@ -111,42 +264,8 @@ pub fn work_off(
 ) -> Worked
     ensures { λ r. ⌜ WorkedOff explained last calls (now (piece .entry)) (now (out .entry)) (now (out .exit)) r ⌝ }
 {
-    let mut table = calls;
-    let mut i: usize = 0;
-    let mut k: usize = 0;
-    while i < piece.len() {
-        match front_of(last, &piece[i..]) {
-            Front::Waits => {
-                return so_far(table, i, k, false);
-            }
-            Front::Faulty(f) => match write_fault(out, k, f) {
-                Wrote::Refused(_) => {
-                    return so_far(table, i, k, false);
-                }
-                Wrote::To(end) => {
-                    return so_far(table, i, end, true);
-                }
-            },
-            Front::Whole(e) => {
-                let kind = e.kind;
-                let n = size(kind);
-                let next = i + n;
-                let t = turn(table, e, &piece[i..]);
-                let after = t.calls;
-                let outcome = t.outcome;
-                let columns = columns_of(e, outcome);
-                match write_line(out, k, explained, columns) {
-                    Wrote::Refused(_) => {
-                        return so_far(table, i, k, false);
-                    }
-                    Wrote::To(end) => {
-                        table = after;
-                        k = end;
-                        i = next;
-                    }
-                }
-            }
-        }
-    }
-    so_far(table, i, k, false)
+    let mut t = calls;
+    let s = work_off_at(&mut t, piece, last, explained, out);
+    let w = so_far(t, s);
+    w
 }

@@ -1,0 +1,21 @@
+use Rattle.rerun.specs.Move.{plannedAt}
+use borrow.Author.Needs.{needs}
+use Rattle.rerun.proofs.planned.Statement.{statement}
+use Rattle.rerun.proofs.planned.Tie as tie
+use Rattle.rerun.proofs.planned.Reads as reads
+use Rattle.rerun.proofs.planned.Lts as lts
+use Rattle.settling.proofs.plan.plans.Reads as plans-reads
+use Rattle.trace.proofs.reading.element.Reads as element-reads
+
+element-requires : tie.Need-element-requires
+element-requires c κs = search needs
+
+plans-requires : tie.Need-plans-requires
+plans-requires c κs = search needs
+
+returns : tie.Need-returns
+unfolding plannedAt
+returns c = simp (c .plans .ensures, c .before .element .ensures)
+
+pub planned-spec : {M : Type 1} → statement M
+planned-spec = tie.close (tie.spec element-requires plans-requires returns)

@@ -1,0 +1,69 @@
+-- One turn of a run at a lent table: what is put there, what is printed, and where the run then stands.
+use Prim.Native.Nat.{ℕ, _+_}
+use mathlib.Core.List.{List, []}
+use mathlib.Core.Bool.{Bool, true, false, cond}
+use mathlib.Core.Path.{_≡_}
+use lib.ListN.{length}
+use lib.Dec.{leb}
+use Rattle.room.specs.Room.{placed}
+use Rattle.call.specs.declared.Event.{Event}
+use Rattle.settling.specs.declared.plan.Looked.{Looked}
+use Rattle.settling.specs.declared.plan.Plan.{Plan}
+use Rattle.settling.specs.declared.plan.Put.{Put}
+use Rattle.settling.specs.Plan.{planOf}
+use Rattle.trace.specs.declared.reading.Entry.{Entry}
+use Rattle.body.specs.Kind.{sizeOf}
+use Rattle.trace.specs.Reading.{elementOf}
+use Rattle.report.specs.Line.{lineOf}
+use Rattle.notices.specs.Notices.{faultLine}
+use Rattle.rerun.specs.declared.Front.{Front}
+use Rattle.rerun.specs.declared.Stand.{Stand}
+use Rattle.rerun.specs.declared.Move.{Move}
+use Rattle.rerun.specs.Run.{columnsOf}
+
+-- what the table is asked; where there is no whole record the answer is not heeded
+abbrev pub referenceIn : Front → ℕ
+referenceIn Front.Waits = 0
+referenceIn (Front.Faulty f) = 0
+referenceIn (Front.Whole e) = e .reference
+
+abbrev pub eventIn : Front → Event
+eventIn Front.Waits = Event.Tick
+eventIn (Front.Faulty f) = Event.Tick
+eventIn (Front.Whole e) = e .event
+
+-- the octets of a whole record
+abbrev pub sizeIn : Front → ℕ
+sizeIn Front.Waits = 0
+sizeIn (Front.Faulty f) = 0
+sizeIn (Front.Whole e) = sizeOf (e .kind)
+
+-- the record's event, at what the table shows of it
+unfoldable pub plannedAt : Looked → Entry → List ℕ → Plan
+plannedAt l e t = planOf l (e .event) (elementOf e t)
+
+abbrev pub textIn : Bool → Front → Looked → List ℕ → List ℕ
+textIn explained Front.Waits l t = []
+textIn explained (Front.Faulty f) l t = faultLine f
+textIn explained (Front.Whole e) l t = lineOf explained (columnsOf e (plannedAt l e t .outcome))
+
+abbrev pub moveTo : Put → ℕ → ℕ → Bool → Bool → Move
+moveTo put used wrote ended more = record { put = put; stand = record { used = used; wrote = wrote; ended = ended; more = more } }
+
+abbrev pub beginning : Stand
+beginning = record { used = 0; wrote = 0; ended = false; more = true }
+
+-- the run stops where it stands, and the table is as it was
+abbrev pub halts : Stand → Move
+halts s = moveTo Put.Nothing (s .used) (s .wrote) false false
+
+-- where the text fits, which has so many octets
+abbrev pub moveIn : Front → Looked → List ℕ → ℕ → Stand → Move
+moveIn Front.Waits l t n s = halts s
+moveIn (Front.Faulty f) l t n s = moveTo Put.Nothing (s .used) (s .wrote + n) true false
+moveIn (Front.Whole e) l t n s = moveTo (plannedAt l e t .put) (s .used + sizeOf (e .kind)) (s .wrote + n) false true
+
+-- the turn r, and the buffer l' that is left
+pub record Moved (explained : Bool) (f : Front) (k : Looked) (t : List ℕ) (s : Stand) (l l' : List ℕ) (r : Move) : Type 0 where
+  pub turn : r ≡ cond (leb (s .wrote + length (textIn explained f k t)) (length l)) (moveIn f k t (length (textIn explained f k t)) s) (halts s)
+  pub buffer : l' ≡ cond (leb (s .wrote + length (textIn explained f k t)) (length l)) (placed (s .wrote) (textIn explained f k t) l) l
