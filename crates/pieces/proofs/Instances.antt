@@ -22,7 +22,6 @@ use Rattle.exchange.specs.Chosen.{chosenOf}
 use Rattle.settling.specs.Choice.{chooseOf}
 use Rattle.settling.specs.Settle.{subjectOf, keptOf, outcomeOf, refusalOf, settledOf}
 use Rattle.exchange.specs.Step.{stepOutcome, stepTable}
-use Rattle.exchange.specs.Bridge.{turnedOf}
 use Rattle.body.specs.Kind.{kindOf}
 use Rattle.body.specs.Field.{flagOf, requestOf, blankOf, fieldFitsOf}
 use Rattle.trace.specs.Reading.{referenceOf, threeFitOf, fieldAtOf, setupRangedOf, rightsOf, requestsOf, countOf, entryOf, recordOf, elementOf}
@@ -47,7 +46,7 @@ all-octets (x ∷ t) h (suc i) = all-octets t (both (ltb x 256) (below t) h .1) 
 
 -- the first part is read, and its line is printed where it fits exactly; the tick waits for the second; what is left of that is the last
 ran : (explained : Bool) → Ran explained (onePart ++ otherPart ++ []) (lines explained)
-unfolding emptyOf meterFitsOf wellFormedOf seenOf goesOutOf rightsFitOf referenceFitsOf remainsOf firstStandingOf standingsOf lacksOf passedRequestsOf networkRefusalsOf nobodyAsks sayingOf onlyIfOf noRights noServices emptyMeters freshCall fieldsFitOf soundOf barOf refusedOf heardOf setupPhaseOf filledOf toCallerOf toCalledOf setupCarriesOf proceedsOf setupOf metersOf refillsOf readyOf runsOf passesTickOf tickOf tableSound chooseOf chosenOf subjectOf keptOf outcomeOf refusalOf settledOf stepOutcome stepTable turnedOf kindOf flagOf requestOf blankOf fieldFitsOf referenceOf threeFitOf fieldAtOf setupRangedOf rightsOf requestsOf countOf entryOf recordOf elementOf digitsOf decimalOf digitOf itemsOf commas joined numberColumns typeColumns lineOf frontOf turnedAt columnsOf lineAt runIn runOf
+unfolding emptyOf meterFitsOf wellFormedOf seenOf goesOutOf rightsFitOf referenceFitsOf remainsOf firstStandingOf standingsOf lacksOf passedRequestsOf networkRefusalsOf nobodyAsks sayingOf onlyIfOf noRights noServices emptyMeters freshCall fieldsFitOf soundOf barOf refusedOf heardOf setupPhaseOf filledOf toCallerOf toCalledOf setupCarriesOf proceedsOf setupOf metersOf refillsOf readyOf runsOf passesTickOf tickOf tableSound chooseOf chosenOf subjectOf keptOf outcomeOf refusalOf settledOf stepOutcome stepTable kindOf flagOf requestOf blankOf fieldFitsOf referenceOf threeFitOf fieldAtOf setupRangedOf rightsOf requestsOf countOf entryOf recordOf elementOf digitsOf decimalOf digitOf itemsOf commas joined numberColumns typeColumns lineOf frontOf turnedAt columnsOf lineAt runIn runOf
 ran false =
     record {
       left = _;
@@ -70,7 +69,7 @@ ran true =
     }
 
 strange-ran : Ran false (8 ∷ 0 ∷ 5 ∷ []) (strangeLine ++ endLine)
-unfolding freshCall soundOf tableSound chooseOf chosenOf refusalOf stepOutcome stepTable turnedOf kindOf referenceOf countOf entryOf recordOf elementOf digitsOf decimalOf numberColumns typeColumns lineOf frontOf turnedAt columnsOf lineAt runIn runOf
+unfolding freshCall soundOf tableSound chooseOf chosenOf refusalOf stepOutcome stepTable kindOf referenceOf countOf entryOf recordOf elementOf digitsOf decimalOf numberColumns typeColumns lineOf frontOf turnedAt columnsOf lineAt runIn runOf
 strange-ran =
     record {
       left = _;

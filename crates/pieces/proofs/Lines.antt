@@ -17,7 +17,6 @@ use Rattle.rules.specs.Answer.{numberOf}
 use Rattle.call.specs.declared.Call.{Call}
 use Rattle.settling.specs.declared.choice.Verdict.{Verdict}
 use Rattle.settling.specs.Choice.{verdictNumber}
-use Rattle.exchange.specs.Bridge.{turnedOf}
 use Rattle.exchange.specs.Step.{stepOutcome}
 use Rattle.body.specs.declared.kind.Kind.{Kind}
 use Rattle.trace.specs.declared.reading.Entry.{Entry}
@@ -182,7 +181,7 @@ unfolding entryOf referenceOf
 reference-in t e o w = rw (w .entry) (let a = o 1 in let b = o 2 in omega arith)
 
 columns-in : (calls : List Call) (t : List ℕ) (e : Entry) → Octets t → Whole t e → ColumnsIn (columnsOf e (turnedAt calls e t .outcome))
-unfolding columnsOf turnedAt turnedOf
+unfolding columnsOf turnedAt
 columns-in calls t e o w =
     let s = tells calls (e .reference) (e .event) (elementOf e t) in
     record {

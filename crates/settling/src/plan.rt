@@ -26,13 +26,13 @@ pub struct Plan {
     pub outcome: Outcome,
 }
 
-pub(crate) fn met(i: usize, c: Call) -> Looked
+pub fn met(i: usize, c: Call) -> Looked
     ensures { λ r. ⌜ r ≡ Looked.At i c ⌝ }
 {
     Looked::At(i, c)
 }
 
-pub(crate) fn barred(v: Verdict) -> Looked
+pub fn barred(v: Verdict) -> Looked
     ensures { λ r. ⌜ r ≡ Looked.Refused v ⌝ }
 {
     Looked::Refused(v)
@@ -60,20 +60,20 @@ pub fn plans(l: Looked, event: Event, element: &[u8]) -> Plan
 }
 
 // The two parts of a plan.
-pub(crate) fn put_of(p: Plan) -> Put
+pub fn put_of(p: Plan) -> Put
     ensures { λ r. ⌜ r ≡ p .put ⌝ }
 {
     p.put
 }
 
-pub(crate) fn told(p: Plan) -> Outcome
+pub fn told(p: Plan) -> Outcome
     ensures { λ r. ⌜ r ≡ p .outcome ⌝ }
 {
     p.outcome
 }
 
 // Where something is put: nothing goes to the table's end, where there is no place.
-pub(crate) fn row(p: Put, end: usize) -> usize
+pub fn row(p: Put, end: usize) -> usize
     ensures { λ r. ⌜ r ≡ rowOf p end ⌝ }
 {
     match p {
@@ -82,7 +82,7 @@ pub(crate) fn row(p: Put, end: usize) -> usize
     }
 }
 
-pub(crate) fn record(p: Put) -> Call
+pub fn record(p: Put) -> Call
     ensures { λ r. ⌜ r ≡ recordOf p ⌝ }
 {
     match p {
