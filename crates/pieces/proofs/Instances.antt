@@ -30,7 +30,8 @@ use Rattle.text.specs.Decimal.{digitsOf, decimalOf}
 use Rattle.text.specs.Hex.{digitOf}
 use Rattle.report.specs.Items.{itemsOf, commas, joined}
 use Rattle.report.specs.Line.{numberColumns, typeColumns, lineOf}
-use Rattle.rerun.specs.Run.{frontOf, turnedAt, columnsOf, lineAt, runIn, runOf}
+use Rattle.fronts.specs.Fronts.{frontOf, columnsOf}
+use Rattle.rerun.specs.Run.{turnedAt, lineAt, runIn, runOf}
 use Rattle.pieces.specs.Promises.{Octets, Run}
 use Rattle.pieces.specs.Instances.{onePart, otherPart, endLine, lines, strangeLine, Ran, Met}
 

@@ -29,7 +29,8 @@ use Rattle.report.specs.declared.Columns.{Columns}
 use Rattle.report.specs.Items.{causeItem, levelItem, saidItem, moreItem, elementItem, itemsOf, commas, joined, messageColumn}
 use Rattle.report.specs.Line.{typeColumn, saidColumns, numberColumns, typeColumns, lineOf}
 use Rattle.notices.specs.Notices.{faultLine}
-use Rattle.rerun.specs.Run.{turnedAt, columnsOf, lineAt}
+use Rattle.fronts.specs.Fronts.{columnsOf}
+use Rattle.rerun.specs.Run.{turnedAt, lineAt}
 use Rattle.pieces.specs.Promises.{Octets}
 use Rattle.pieces.proofs.Fronts.{Whole}
 use Rattle.pieces.proofs.Causes.{CauseIn, SentIn, tells}

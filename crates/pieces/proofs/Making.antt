@@ -14,8 +14,9 @@ use Rattle.trace.specs.declared.reading.Record.{Record}
 use Rattle.body.specs.Kind.{sizeOf}
 use Rattle.trace.specs.Reading.{recordOf}
 use Rattle.notices.specs.Notices.{faultLine}
-use Rattle.rerun.specs.declared.Front.{Front}
-use Rattle.rerun.specs.Run.{heardOf, frontOf, turnedAt, lineAt, Ran, rests, ends, goes, turnOf, runIn}
+use Rattle.fronts.specs.declared.Front.{Front}
+use Rattle.fronts.specs.Fronts.{heardOf, frontOf}
+use Rattle.rerun.specs.Run.{turnedAt, lineAt, Ran, rests, ends, goes, turnOf, runIn}
 use Rattle.pieces.specs.Promises.{Made, madeBy, madeIn, madeOf, thenMade}
 use Rattle.pieces.proofs.Fronts.{Whole, told, stays, size-least, size-within, same-element}
 

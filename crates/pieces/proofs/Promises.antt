@@ -16,8 +16,9 @@ use Rattle.trace.specs.declared.reading.Record.{Record}
 use Rattle.trace.specs.Reading.{recordOf}
 use Rattle.body.proofs.Sizes.{least}
 use Rattle.notices.specs.Notices.{faultLine}
-use Rattle.rerun.specs.declared.Front.{Front}
-use Rattle.rerun.specs.Run.{heardOf, frontOf, lineAt, Ran, turnOf, runIn, runOf}
+use Rattle.fronts.specs.declared.Front.{Front}
+use Rattle.fronts.specs.Fronts.{heardOf, frontOf}
+use Rattle.rerun.specs.Run.{lineAt, Ran, turnOf, runIn, runOf}
 use Rattle.pieces.specs.Promises.{madeOf, printedOf, GoesOn, Octets, longest, Bounded, Run, WholeRun, Runs, Always}
 use Rattle.pieces.proofs.Fronts.{record-none}
 use Rattle.pieces.proofs.Making.{by-cond, taken, none-left, cut-short, made-end, Went, went}

@@ -20,11 +20,12 @@ use Rattle.body.specs.Kind.{sizeOf}
 use Rattle.report.specs.declared.Columns.{Columns}
 use Rattle.report.specs.Line.{lineOf}
 use Rattle.notices.specs.Notices.{faultLine}
-use Rattle.rerun.specs.declared.Front.{Front}
+use Rattle.fronts.specs.declared.Front.{Front}
 use Rattle.rerun.specs.declared.Stand.{Stand}
 use Rattle.rerun.specs.declared.Move.{Move}
-use Rattle.rerun.specs.Run.{columnsOf}
-use Rattle.rerun.specs.Move.{plannedAt, textIn, moveTo, halts, moveIn, Moved}
+use Rattle.fronts.specs.Fronts.{columnsOf}
+use Rattle.fronts.specs.Fronts.{plannedAt}
+use Rattle.rerun.specs.Move.{textIn, moveTo, halts, moveIn, Moved}
 
 module _ (explained : Bool) (f : Front) (k : Looked) (t : List ℕ) (s : Stand) (l : List ℕ) where
   abbrev text : List ℕ

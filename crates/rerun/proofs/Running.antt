@@ -22,7 +22,7 @@ use Rattle.trace.specs.Reading.{recordOf, namedOf, entryOf, rangedOf, elementOf
 use Rattle.body.proofs.Sizes.{least}
 use Rattle.report.specs.Line.{lineOf}
 use Rattle.notices.specs.Notices.{faultLine}
-use Rattle.rerun.specs.declared.Front.{Front}
+use Rattle.fronts.specs.declared.Front.{Front}
 use Rattle.rerun.specs.declared.Stand.{Stand}
 use Rattle.rerun.specs.declared.Move.{Move}
 use Rattle.settling.specs.declared.settle.Outcome.{Outcome}
@@ -30,8 +30,10 @@ use Rattle.settling.specs.declared.plan.Looked.{Looked}
 use Rattle.exchange.specs.Halves.{lookOf, committed}
 use Rattle.exchange.proofs.Planned.{plan-told, plan-put}
 use Rattle.exchange.proofs.Promises.{one-place}
-use Rattle.rerun.specs.Run.{heardOf, frontOf, turnedAt, columnsOf, lineAt, Ran, rests, ends, goes, turnOf, runIn, runOf, soFar, WorkedOff}
-use Rattle.rerun.specs.Move.{referenceIn, eventIn, sizeIn, plannedAt, textIn, beginning, halts, moveIn, Moved}
+use Rattle.fronts.specs.Fronts.{heardOf, frontOf, columnsOf}
+use Rattle.rerun.specs.Run.{turnedAt, lineAt, Ran, rests, ends, goes, turnOf, runIn, runOf, soFar, WorkedOff}
+use Rattle.fronts.specs.Fronts.{referenceIn, eventIn, plannedAt}
+use Rattle.rerun.specs.Move.{sizeIn, textIn, beginning, halts, moveIn, Moved}
 
 -- nothing stands at the front of no octets
 pub front-empty : (last : Bool) (c : List ℕ) (i : ℕ) → length c ≤ i → frontOf last (drop i c) ≡ Front.Waits

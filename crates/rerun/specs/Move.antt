@@ -6,41 +6,21 @@ use mathlib.Core.Path.{_≡_}
 use lib.ListN.{length}
 use lib.Dec.{leb}
 use Rattle.room.specs.Room.{placed}
-use Rattle.call.specs.declared.Event.{Event}
 use Rattle.settling.specs.declared.plan.Looked.{Looked}
-use Rattle.settling.specs.declared.plan.Plan.{Plan}
 use Rattle.settling.specs.declared.plan.Put.{Put}
-use Rattle.settling.specs.Plan.{planOf}
-use Rattle.trace.specs.declared.reading.Entry.{Entry}
 use Rattle.body.specs.Kind.{sizeOf}
-use Rattle.trace.specs.Reading.{elementOf}
 use Rattle.report.specs.Line.{lineOf}
 use Rattle.notices.specs.Notices.{faultLine}
-use Rattle.rerun.specs.declared.Front.{Front}
+use Rattle.fronts.specs.declared.Front.{Front}
+use Rattle.fronts.specs.Fronts.{columnsOf, plannedAt}
 use Rattle.rerun.specs.declared.Stand.{Stand}
 use Rattle.rerun.specs.declared.Move.{Move}
-use Rattle.rerun.specs.Run.{columnsOf}
-
--- what the table is asked; where there is no whole record the answer is not heeded
-abbrev pub referenceIn : Front → ℕ
-referenceIn Front.Waits = 0
-referenceIn (Front.Faulty f) = 0
-referenceIn (Front.Whole e) = e .reference
-
-abbrev pub eventIn : Front → Event
-eventIn Front.Waits = Event.Tick
-eventIn (Front.Faulty f) = Event.Tick
-eventIn (Front.Whole e) = e .event
 
 -- the octets of a whole record
 abbrev pub sizeIn : Front → ℕ
 sizeIn Front.Waits = 0
 sizeIn (Front.Faulty f) = 0
 sizeIn (Front.Whole e) = sizeOf (e .kind)
-
--- the record's event, at what the table shows of it
-unfoldable pub plannedAt : Looked → Entry → List ℕ → Plan
-plannedAt l e t = planOf l (e .event) (elementOf e t)
 
 abbrev pub textIn : Bool → Front → Looked → List ℕ → List ℕ
 textIn explained Front.Waits l t = []

@@ -8,30 +8,16 @@ use lib.Dec.{leb}
 use Rattle.room.specs.Room.{placed}
 use Rattle.call.specs.declared.Call.{Call}
 use Rattle.settling.specs.declared.settle.Outcome.{Outcome}
-use Rattle.settling.specs.Choice.{verdictNumber}
 use Rattle.exchange.specs.Step.{stepOutcome, stepTable}
 use Rattle.trace.specs.declared.reading.Entry.{Entry}
 use Rattle.trace.specs.declared.reading.Fault.{Fault}
-use Rattle.trace.specs.declared.reading.Record.{Record}
 use Rattle.body.specs.Kind.{sizeOf}
-use Rattle.trace.specs.Reading.{recordOf, elementOf}
-use Rattle.report.specs.declared.Columns.{Columns}
+use Rattle.trace.specs.Reading.{elementOf}
 use Rattle.report.specs.Line.{lineOf}
 use Rattle.notices.specs.Notices.{faultLine}
-use Rattle.rerun.specs.declared.Front.{Front}
+use Rattle.fronts.specs.declared.Front.{Front}
+use Rattle.fronts.specs.Fronts.{frontOf, columnsOf}
 use Rattle.rerun.specs.declared.Worked.{Worked}
-
--- "record cut short" is a fault where nothing more comes; otherwise the rest of the record is waited for
-abbrev pub heardOf : Bool → Record → Front
-heardOf last Record.End = Front.Waits
-heardOf last (Record.Taken e) = Front.Whole e
-heardOf last (Record.Refused Fault.Kind) = Front.Faulty Fault.Kind
-heardOf last (Record.Refused Fault.Short) = cond last (Front.Faulty Fault.Short) Front.Waits
-heardOf last (Record.Refused Fault.Range) = Front.Faulty Fault.Range
-
--- what a piece of trace begins with; last says that nothing comes after the piece
-unfoldable pub frontOf : Bool → List ℕ → Front
-frontOf last t = heardOf last (recordOf t)
 
 -- the table that an event leaves, and what it is answered
 pub record Turned : Type 0 where
@@ -44,18 +30,6 @@ turnedAt calls e t =
     record {
       calls = stepTable calls (e .reference) (e .event) (elementOf e t);
       outcome = stepOutcome calls (e .reference) (e .event) (elementOf e t);
-    }
-
--- `kind ref answer note calling called`
-unfoldable pub columnsOf : Entry → Outcome → Columns
-columnsOf e o =
-    record {
-      kind = e .kind;
-      reference = e .reference;
-      answer = verdictNumber (o .verdict);
-      note = o .note;
-      calling = o .calling;
-      called = o .called;
     }
 
 unfoldable pub lineAt : Bool → List Call → Entry → List ℕ → List ℕ

@@ -3,35 +3,24 @@ ghost use mathlib.Core.Path.{_≡_};
 ghost use mathlib.Core.Bool.{false};
 ghost use Prim.Native.Nat.{_+_, _≤_};
 ghost use lib.ListN.{length, drop};
-ghost use Rattle.rerun.specs.Run.{heardOf, frontOf, columnsOf, soFar, WorkedOff};
-ghost use Rattle.rerun.specs.Move.{referenceIn, eventIn, sizeIn, plannedAt, moveTo, beginning, Moved};
+ghost use Rattle.fronts.specs.Fronts.{frontOf};
+ghost use Rattle.rerun.specs.Run.{soFar, WorkedOff};
+ghost use Rattle.rerun.specs.Move.{sizeIn, moveTo, beginning, Moved};
 use body::kind::size;
 use call::Call;
-use call::Event;
 use exchange::step::commit;
 use exchange::step::look;
+use fronts::Front;
+use fronts::columns_of;
+use fronts::event_in;
+use fronts::front_of;
+use fronts::planned;
+use fronts::reference_in;
 use notices::write_fault;
-use report::Columns;
 use report::write_line;
 use room::Wrote;
-use settling::choice::verdict_number;
 use settling::plan::Looked;
-use settling::plan::Plan;
 use settling::plan::Put;
-use settling::plan::plans;
-use settling::settle::Outcome;
-use trace::reading::Entry;
-use trace::reading::Fault;
-use trace::reading::Record;
-use trace::reading::element;
-use trace::reading::read_record;
-
-// What a piece of trace begins with. Waits: there is nothing, or the rest of a record has yet to come.
-pub enum Front {
-    Waits,
-    Faulty(Fault),
-    Whole(Entry),
-}
 
 // used: how many octets of the piece; wrote: how many octets of text; ended: whether a fault ended the run.
 pub struct Worked {
@@ -55,32 +44,6 @@ struct Move {
     stand: Stand,
 }
 
-fn heard(last: bool, r: Record) -> Front
-    ensures { λ f. ⌜ f ≡ heardOf last r ⌝ }
-{
-    match r {
-        Record::End => Front::Waits,
-        Record::Taken(e) => Front::Whole(e),
-        Record::Refused(f) => match f {
-            Fault::Kind => Front::Faulty(Fault::Kind),
-            Fault::Short => {
-                if last {
-                    Front::Faulty(Fault::Short)
-                } else {
-                    Front::Waits
-                }
-            }
-            Fault::Range => Front::Faulty(Fault::Range),
-        },
-    }
-}
-
-fn front_of(last: bool, t: &[u8]) -> Front
-    ensures { λ f. ⌜ f ≡ frontOf last (now (t .entry)) ⌝ }
-{
-    heard(last, read_record(t))
-}
-
 // The front of what is left of the piece.
 fn front_at(last: bool, piece: &[u8], s: Stand) -> Front
     ensures { λ f. ⌜ f ≡ frontOf last (drop (s .used) (now (piece .entry))) ⌝ }
@@ -90,55 +53,6 @@ fn front_at(last: bool, piece: &[u8], s: Stand) -> Front
         front_of(last, &piece[i..])
     } else {
         Front::Waits
-    }
-}
-
-// What the front asks of the table: where there is no whole record, something that is not heeded.
-fn reference_in(f: Front) -> u16
-    ensures { λ r. ⌜ r ≡ referenceIn f ⌝ }
-{
-    match f {
-        Front::Waits => 0,
-        Front::Faulty(x) => 0,
-        Front::Whole(e) => e.reference,
-    }
-}
-
-fn event_in(f: Front) -> Event
-    ensures { λ r. ⌜ r ≡ eventIn f ⌝ }
-{
-    match f {
-        Front::Waits => Event::Tick,
-        Front::Faulty(x) => Event::Tick,
-        Front::Whole(e) => e.event,
-    }
-}
-
-// The record's event, at what the table shows of it.
-fn planned(l: Looked, e: Entry, t: &[u8]) -> Plan
-    ensures { λ r. ⌜ r ≡ plannedAt l e (now (t .entry)) ⌝ }
-{
-    let event = e.event;
-    plans(l, event, element(t, e))
-}
-
-fn columns_of(e: Entry, o: Outcome) -> Columns
-    ensures { λ r. ⌜ r ≡ columnsOf e o ⌝ }
-{
-    let kind = e.kind;
-    let reference = e.reference;
-    let verdict = o.verdict;
-    let note = o.note;
-    let calling = o.calling;
-    let called = o.called;
-    let answer = verdict_number(verdict);
-    Columns {
-        kind: kind,
-        reference: reference,
-        answer: answer,
-        note: note,
-        calling: calling,
-        called: called,
     }
 }
 

@@ -9,9 +9,9 @@ use Rattle.rerun.proofs.decide.Reads as reads
 use Rattle.rerun.proofs.decide.Lts as lts
 use Rattle.notices.proofs.write_fault.Reads as write-fault-reads
 use Rattle.report.proofs.write_line.Reads as write-line-reads
-use Rattle.rerun.proofs.columns_of.Reads as columns-of-reads
+use Rattle.fronts.proofs.columns_of.Reads as columns-of-reads
 use Rattle.rerun.proofs.moves.Reads as moves-reads
-use Rattle.rerun.proofs.planned.Reads as planned-reads
+use Rattle.fronts.proofs.planned.Reads as planned-reads
 use Rattle.body.proofs.kind.size.Reads as size-reads
 
 enum-told : tie.Need-enum-told

@@ -6,7 +6,7 @@ use Rattle.rerun.proofs.front_at.Statement.{statement}
 use Rattle.rerun.proofs.front_at.Tie as tie
 use Rattle.rerun.proofs.front_at.Reads as reads
 use Rattle.rerun.proofs.front_at.Lts as lts
-use Rattle.rerun.proofs.front_of.Reads as front-of-reads
+use Rattle.fronts.proofs.front_of.Reads as front-of-reads
 
 sub-front-of : tie.Need-sub-front-of
 sub-front-of c = search needs

@@ -58,15 +58,17 @@ use Rattle.settling.proofs.plan.Looked.Laws as K′
 use Rattle.settling.proofs.plan.Put as Q
 use Rattle.settling.proofs.plan.Put.Laws as Q′
 use Rattle.meter.proofs.Plainly.{pre-plain, calls-lasts, calls-told, calls-plain, leaves}
-use Rattle.rerun.specs.declared.Front.{Front}
+use Rattle.fronts.specs.declared.Front.{Front}
 use Rattle.rerun.specs.declared.Move.{Move}
 use Rattle.rerun.specs.declared.Stand.{Stand}
-use Rattle.rerun.specs.Move.{referenceIn, eventIn, sizeIn, beginning, Moved}
-use Rattle.rerun.specs.Run.{frontOf, soFar, WorkedOff}
+use Rattle.fronts.specs.Fronts.{referenceIn, eventIn}
+use Rattle.rerun.specs.Move.{sizeIn, beginning, Moved}
+use Rattle.fronts.specs.Fronts.{frontOf}
+use Rattle.rerun.specs.Run.{soFar, WorkedOff}
 use Rattle.rerun.proofs.Lent.{shares, lends, shared-back, lent-back}
 use Rattle.rerun.proofs.Running.{Kept, leftOf, starts, front-fits, turns-on}
-use Rattle.rerun.proofs.Front as F
-use Rattle.rerun.proofs.Front.Laws as F′
+use Rattle.fronts.proofs.Front as F
+use Rattle.fronts.proofs.Front.Laws as F′
 use Rattle.rerun.proofs.Move as O
 use Rattle.rerun.proofs.Move.Laws as O′
 use Rattle.rerun.proofs.Stand as S
@@ -83,14 +85,14 @@ use Rattle.rerun.proofs.front_at as fr
 use Rattle.rerun.proofs.front_at.Symbol as fr-def
 use Rattle.rerun.proofs.front_at.Symbol.{name as #fr}
 use Rattle.rerun.proofs.front_at.Met as fr-thm
-use Rattle.rerun.proofs.reference_in as rf
-use Rattle.rerun.proofs.reference_in.Symbol as rf-def
-use Rattle.rerun.proofs.reference_in.Symbol.{name as #rf}
-use Rattle.rerun.proofs.reference_in.Met as rf-thm
-use Rattle.rerun.proofs.event_in as ev
-use Rattle.rerun.proofs.event_in.Symbol as ev-def
-use Rattle.rerun.proofs.event_in.Symbol.{name as #ev}
-use Rattle.rerun.proofs.event_in.Met as ev-thm
+use Rattle.fronts.proofs.reference_in as rf
+use Rattle.fronts.proofs.reference_in.Symbol as rf-def
+use Rattle.fronts.proofs.reference_in.Symbol.{name as #rf}
+use Rattle.fronts.proofs.reference_in.Met as rf-thm
+use Rattle.fronts.proofs.event_in as ev
+use Rattle.fronts.proofs.event_in.Symbol as ev-def
+use Rattle.fronts.proofs.event_in.Symbol.{name as #ev}
+use Rattle.fronts.proofs.event_in.Met as ev-thm
 use Rattle.exchange.proofs.step.look as lk
 use Rattle.exchange.proofs.step.look.Symbol as lk-def
 use Rattle.exchange.proofs.step.look.Symbol.{name as #lk}
@@ -457,8 +459,8 @@ work-off-at-spec 𝓤 H 𝓜 𝓖 𝓡 =
     (cited 𝓤 H (Hd 𝓤 H (𝓖 .A) (𝓜 .mem) (𝓡 .run)) 𝓜 𝓡 code.env #hd hd-def.routine code.calls-rerun·at-start (hd-thm.met 𝓤 H 𝓜 𝓖 𝓡))
     (cited 𝓤 H (Go 𝓤 H (𝓖 .A) (𝓜 .mem) (𝓡 .run)) 𝓜 𝓡 code.env #go go-def.routine code.calls-rerun·goes-on (go-thm.met 𝓤 H 𝓜 𝓖 𝓡))
     (cited 𝓤 H (Fr 𝓤 H (𝓖 .A) (𝓜 .mem) (𝓡 .run)) 𝓜 𝓡 code.env #fr fr-def.routine code.calls-rerun·front-at (fr-thm.met 𝓤 H 𝓜 𝓖 𝓡))
-    (cited 𝓤 H (Rf 𝓤 H (𝓖 .A) (𝓜 .mem) (𝓡 .run)) 𝓜 𝓡 code.env #rf rf-def.routine code.calls-rerun·reference-in (rf-thm.met 𝓤 H 𝓜 𝓖 𝓡))
-    (cited 𝓤 H (Ev 𝓤 H (𝓖 .A) (𝓜 .mem) (𝓡 .run)) 𝓜 𝓡 code.env #ev ev-def.routine code.calls-rerun·event-in (ev-thm.met 𝓤 H 𝓜 𝓖 𝓡))
+    (cited 𝓤 H (Rf 𝓤 H (𝓖 .A) (𝓜 .mem) (𝓡 .run)) 𝓜 𝓡 code.env #rf rf-def.routine code.calls-fronts·reference-in (rf-thm.met 𝓤 H 𝓜 𝓖 𝓡))
+    (cited 𝓤 H (Ev 𝓤 H (𝓖 .A) (𝓜 .mem) (𝓡 .run)) 𝓜 𝓡 code.env #ev ev-def.routine code.calls-fronts·event-in (ev-thm.met 𝓤 H 𝓜 𝓖 𝓡))
     (cited 𝓤 H (Lk 𝓤 H (𝓖 .A) (𝓜 .mem) (𝓡 .run)) 𝓜 𝓡 code.env #lk lk-def.routine code.calls-exchange·step·look (lk-thm.met 𝓤 H 𝓜 𝓖 𝓡))
     (cited 𝓤 H (Dc 𝓤 H (𝓖 .A) (𝓜 .mem) (𝓡 .run)) 𝓜 𝓡 code.env #dc dc-def.routine code.calls-rerun·decide (dc-thm.met 𝓤 H 𝓜 𝓖 𝓡))
     (cited 𝓤 H (Pt 𝓤 H (𝓖 .A) (𝓜 .mem) (𝓡 .run)) 𝓜 𝓡 code.env #pt pt-def.routine code.calls-rerun·put-in (pt-thm.met 𝓤 H 𝓜 𝓖 𝓡))

@@ -1,8 +1,8 @@
 use borrow.Author.Needs.{needs}
-use Rattle.rerun.proofs.heard.Statement.{statement}
-use Rattle.rerun.proofs.heard.Tie as tie
-use Rattle.rerun.proofs.heard.Reads as reads
-use Rattle.rerun.proofs.heard.Lts as lts
+use Rattle.fronts.proofs.heard.Statement.{statement}
+use Rattle.fronts.proofs.heard.Tie as tie
+use Rattle.fronts.proofs.heard.Reads as reads
+use Rattle.fronts.proofs.heard.Lts as lts
 
 enum-told : tie.Need-enum-told
 enum-told c = search needs

@@ -1,10 +1,10 @@
-use Rattle.rerun.specs.Run.{frontOf}
+use Rattle.fronts.specs.Fronts.{frontOf}
 use borrow.Author.Needs.{needs}
-use Rattle.rerun.proofs.front_of.Statement.{statement}
-use Rattle.rerun.proofs.front_of.Tie as tie
-use Rattle.rerun.proofs.front_of.Reads as reads
-use Rattle.rerun.proofs.front_of.Lts as lts
-use Rattle.rerun.proofs.heard.Reads as heard-reads
+use Rattle.fronts.proofs.front_of.Statement.{statement}
+use Rattle.fronts.proofs.front_of.Tie as tie
+use Rattle.fronts.proofs.front_of.Reads as reads
+use Rattle.fronts.proofs.front_of.Lts as lts
+use Rattle.fronts.proofs.heard.Reads as heard-reads
 use Rattle.trace.proofs.reading.read_record.Reads as read-record-reads
 
 read-record-requires : tie.Need-read-record-requires

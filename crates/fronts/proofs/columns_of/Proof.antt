@@ -1,9 +1,9 @@
-use Rattle.rerun.specs.Run.{columnsOf}
+use Rattle.fronts.specs.Fronts.{columnsOf}
 use borrow.Author.Needs.{needs}
-use Rattle.rerun.proofs.columns_of.Statement.{statement}
-use Rattle.rerun.proofs.columns_of.Tie as tie
-use Rattle.rerun.proofs.columns_of.Reads as reads
-use Rattle.rerun.proofs.columns_of.Lts as lts
+use Rattle.fronts.proofs.columns_of.Statement.{statement}
+use Rattle.fronts.proofs.columns_of.Tie as tie
+use Rattle.fronts.proofs.columns_of.Reads as reads
+use Rattle.fronts.proofs.columns_of.Lts as lts
 use Rattle.settling.proofs.choice.verdict_number.Reads as verdict-number-reads
 
 verdict-number-requires : tie.Need-verdict-number-requires

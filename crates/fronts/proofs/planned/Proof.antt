@@ -1,9 +1,9 @@
-use Rattle.rerun.specs.Move.{plannedAt}
+use Rattle.fronts.specs.Fronts.{plannedAt}
 use borrow.Author.Needs.{needs}
-use Rattle.rerun.proofs.planned.Statement.{statement}
-use Rattle.rerun.proofs.planned.Tie as tie
-use Rattle.rerun.proofs.planned.Reads as reads
-use Rattle.rerun.proofs.planned.Lts as lts
+use Rattle.fronts.proofs.planned.Statement.{statement}
+use Rattle.fronts.proofs.planned.Tie as tie
+use Rattle.fronts.proofs.planned.Reads as reads
+use Rattle.fronts.proofs.planned.Lts as lts
 use Rattle.settling.proofs.plan.plans.Reads as plans-reads
 use Rattle.trace.proofs.reading.element.Reads as element-reads
 

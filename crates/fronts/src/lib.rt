@@ -1,0 +1,97 @@
+// What a piece of trace begins with, what that asks of a table of calls, and what is printed of the answer; all by value.
+ghost use mathlib.Core.Path.{_≡_};
+ghost use Rattle.fronts.specs.Fronts.{heardOf, frontOf, referenceIn, eventIn, plannedAt, columnsOf};
+use call::Event;
+use report::Columns;
+use settling::choice::verdict_number;
+use settling::plan::Looked;
+use settling::plan::Plan;
+use settling::plan::plans;
+use settling::settle::Outcome;
+use trace::reading::Entry;
+use trace::reading::Fault;
+use trace::reading::Record;
+use trace::reading::element;
+use trace::reading::read_record;
+
+// What a piece of trace begins with. Waits: there is nothing, or the rest of a record has yet to come.
+pub enum Front {
+    Waits,
+    Faulty(Fault),
+    Whole(Entry),
+}
+
+fn heard(last: bool, r: Record) -> Front
+    ensures { λ f. ⌜ f ≡ heardOf last r ⌝ }
+{
+    match r {
+        Record::End => Front::Waits,
+        Record::Taken(e) => Front::Whole(e),
+        Record::Refused(f) => match f {
+            Fault::Kind => Front::Faulty(Fault::Kind),
+            Fault::Short => {
+                if last {
+                    Front::Faulty(Fault::Short)
+                } else {
+                    Front::Waits
+                }
+            }
+            Fault::Range => Front::Faulty(Fault::Range),
+        },
+    }
+}
+
+pub fn front_of(last: bool, t: &[u8]) -> Front
+    ensures { λ f. ⌜ f ≡ frontOf last (now (t .entry)) ⌝ }
+{
+    heard(last, read_record(t))
+}
+
+// What the front asks of the table: where there is no whole record, something that is not heeded.
+pub fn reference_in(f: Front) -> u16
+    ensures { λ r. ⌜ r ≡ referenceIn f ⌝ }
+{
+    match f {
+        Front::Waits => 0,
+        Front::Faulty(x) => 0,
+        Front::Whole(e) => e.reference,
+    }
+}
+
+pub fn event_in(f: Front) -> Event
+    ensures { λ r. ⌜ r ≡ eventIn f ⌝ }
+{
+    match f {
+        Front::Waits => Event::Tick,
+        Front::Faulty(x) => Event::Tick,
+        Front::Whole(e) => e.event,
+    }
+}
+
+// The record's event, at what the table shows of it.
+pub fn planned(l: Looked, e: Entry, t: &[u8]) -> Plan
+    ensures { λ r. ⌜ r ≡ plannedAt l e (now (t .entry)) ⌝ }
+{
+    let event = e.event;
+    plans(l, event, element(t, e))
+}
+
+pub fn columns_of(e: Entry, o: Outcome) -> Columns
+    ensures { λ r. ⌜ r ≡ columnsOf e o ⌝ }
+{
+    let kind = e.kind;
+    let reference = e.reference;
+    let verdict = o.verdict;
+    let note = o.note;
+    let calling = o.calling;
+    let called = o.called;
+    let answer = verdict_number(verdict);
+    Columns {
+        kind: kind,
+        reference: reference,
+        answer: answer,
+        note: note,
+        calling: calling,
+        called: called,
+    }
+}
