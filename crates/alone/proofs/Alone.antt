@@ -12,13 +12,13 @@ use Rattle.call.specs.declared.Call.{Call}
 use Rattle.call.specs.declared.Event.{Event}
 use Rattle.call.specs.Sound.{freshCall}
 use Rattle.call.specs.Step.{stepOf}
-use Rattle.settling.specs.declared.choice.Choice.{Choice}
-use Rattle.settling.specs.declared.choice.Verdict.{Verdict}
+use Rattle.choosing.specs.declared.choice.Choice.{Choice}
+use Rattle.choosing.specs.declared.choice.Verdict.{Verdict}
 use Rattle.settling.specs.declared.settle.Outcome.{Outcome}
-use Rattle.settling.specs.Look.{liveAs}
+use Rattle.choosing.specs.Look.{liveAs}
 use Rattle.exchange.specs.Table.{tableSound}
 use Rattle.exchange.specs.Chosen.{chosenOf}
-use Rattle.settling.specs.Choice.{verdictNumber, referenceOf, opensOf, rangedOf}
+use Rattle.choosing.specs.Choice.{verdictNumber, referenceOf, opensOf, rangedOf}
 use Rattle.settling.specs.Settle.{subjectOf, outcomeOf, refusalOf, settledOf}
 use Rattle.exchange.specs.Step.{outcomeAt, tableAt, stepOutcome, stepTable}
 use Rattle.exchange.specs.Promises.{heldCall}

@@ -10,8 +10,8 @@ use Rattle.call.specs.declared.Call.{Call}
 use Rattle.meter.specs.Meter.{emptyOf, meterFitsOf, passageOf}
 use Rattle.service.specs.Element.{wellFormedOf, seenOf, goesOutOf}
 use Rattle.service.specs.Rights.{rightsFitOf, referenceFitsOf}
-use Rattle.service.specs.Standing.{remainsOf, firstStandingOf, standingsOf, lacksOf, failedOf, settlesOf}
-use Rattle.rules.specs.Asking.{nobodyAsks}
+use Rattle.standing.specs.Standing.{remainsOf, firstStandingOf, standingsOf, lacksOf, failedOf, settlesOf}
+use Rattle.asking.specs.Asking.{nobodyAsks}
 use Rattle.call.specs.Sound.{noRights, noServices, emptyMeters, freshCall, fieldsFitOf, soundOf, inPhaseOf}
 use Rattle.call.specs.Reply.{barOf, refusedOf, heardOf, replyOf}
 use Rattle.call.specs.Setup.{setupPhaseOf, filledOf, setupCarriesOf, proceedsOf, setupOf}
@@ -21,7 +21,7 @@ use Rattle.call.specs.Disconnect.{endsOf, releaseCompleteOf}
 use Rattle.call.specs.Tick.{refillsOf, runsOf, passesTickOf, tickOf}
 use Rattle.exchange.specs.Table.{tableSound}
 use Rattle.exchange.specs.Chosen.{chosenOf}
-use Rattle.settling.specs.Choice.{chooseOf}
+use Rattle.choosing.specs.Choice.{chooseOf}
 use Rattle.settling.specs.Settle.{subjectOf, keptOf, outcomeOf, refusalOf, settledOf}
 use Rattle.exchange.specs.Step.{stepOutcome, stepTable}
 use Rattle.alone.specs.Alone.{AllFresh, Met, Needed}

@@ -15,13 +15,13 @@ use Rattle.rules.specs.Phase.{liveOf}
 use Rattle.call.specs.declared.Call.{Call}
 use Rattle.call.specs.declared.Event.{Event}
 use Rattle.call.specs.Sound.{freshCall}
-use Rattle.settling.specs.declared.choice.Choice.{Choice}
-use Rattle.settling.specs.declared.choice.Verdict.{Verdict}
-use Rattle.settling.specs.declared.look.Found.{Found}
-use Rattle.settling.specs.Look.{liveAs, isAt}
+use Rattle.choosing.specs.declared.choice.Choice.{Choice}
+use Rattle.choosing.specs.declared.choice.Verdict.{Verdict}
+use Rattle.choosing.specs.declared.look.Found.{Found}
+use Rattle.choosing.specs.Look.{liveAs, isAt}
 use Rattle.exchange.specs.Table.{findFrom, placeFrom, heldIn, tableSound}
 use Rattle.exchange.specs.Chosen.{chosenOf}
-use Rattle.settling.specs.Choice.{referenceOf, opensOf, rangedOf, newPlaceOf, oldPlaceOf, chooseOf}
+use Rattle.choosing.specs.Choice.{referenceOf, opensOf, rangedOf, newPlaceOf, oldPlaceOf, chooseOf}
 use Rattle.settling.specs.Settle.{settledOf}
 use Rattle.exchange.specs.Step.{tableAt, stepTable}
 use Rattle.exchange.specs.Promises.{LiveAt, FieldsIn, Faulty, over, twins, unsound, heldCall}

@@ -7,15 +7,15 @@ use mathlib.Core.Path.{_≡_}
 use lib.Dec.{eqb}
 use lib.ListN.{length, getD}
 use Rattle.service.specs.declared.rights.Rights.{Rights}
-use Rattle.service.specs.declared.standing.Given.{Given}
-use Rattle.service.specs.declared.standing.Request.{Request}
+use Rattle.standing.specs.declared.Given.{Given}
+use Rattle.standing.specs.declared.Request.{Request}
 use Rattle.rules.specs.declared.phase.Phase.{Phase}
 use Rattle.rules.specs.declared.side.Side.{Side}
 use Rattle.call.specs.declared.Call.{Call}
 use Rattle.call.specs.declared.Event.{Event}
 use Rattle.call.specs.Sound.{freshCall}
 use Rattle.settling.specs.declared.settle.Outcome.{Outcome}
-use Rattle.settling.specs.Choice.{verdictNumber, referenceOf, opensOf}
+use Rattle.choosing.specs.Choice.{verdictNumber, referenceOf, opensOf}
 use Rattle.exchange.specs.Step.{stepOutcome, stepTable}
 
 -- an event as it is offered at a table

@@ -3,7 +3,7 @@ use crate::show::both;
 use crate::show::reads;
 use crate::show::writes_message;
 use crate::show::writes_nowhere;
-use component::cause::Cause;
+use cause::Cause;
 use component::facility::Component;
 use fields::Facilities;
 use fields::Header;

@@ -1,10 +1,10 @@
 // The fields of a body: small numbers, and the element with the zeros after it.
 ghost use mathlib.Core.Path.{_≡_};
 ghost use Rattle.body.specs.Field.{flagOf, sideOf, requestOf, givenOf, whatOf, blankOf, fieldFitsOf};
-use rules::asking::What;
+use asking::What;
 use rules::side::Side;
-use service::standing::Given;
-use service::standing::Request;
+use standing::Given;
+use standing::Request;
 
 // The octets that an element field has.
 pub const FIELD: usize = 132;

@@ -4,11 +4,11 @@ use mathlib.Core.List.{List}
 use mathlib.Core.Bool.{Bool, true, false, cond, not}
 use Rattle.service.specs.declared.cause.Cause.{Cause}
 use Rattle.service.specs.declared.element.Seen.{Seen}
-use Rattle.service.specs.declared.standing.Answers.{Answers}
-use Rattle.service.specs.declared.standing.Fate.{Fate}
-use Rattle.service.specs.declared.standing.Fates.{Fates}
-use Rattle.service.specs.declared.standing.Given.{Given}
-use Rattle.service.specs.declared.standing.Standings.{Standings}
+use Rattle.standing.specs.declared.Answers.{Answers}
+use Rattle.standing.specs.declared.Fate.{Fate}
+use Rattle.standing.specs.declared.Fates.{Fates}
+use Rattle.standing.specs.declared.Given.{Given}
+use Rattle.standing.specs.declared.Standings.{Standings}
 use Rattle.rules.specs.declared.answer.Answer.{Answer}
 use Rattle.rules.specs.declared.message.Kind.{Kind}
 use Rattle.rules.specs.declared.message.Sent.{Sent}
@@ -17,7 +17,7 @@ use Rattle.call.specs.declared.Call.{Call}
 use Rattle.call.specs.declared.Meters.{Meters}
 use Rattle.call.specs.declared.reply.Reply.{Reply}
 use Rattle.meter.specs.Meter.{grantedOf}
-use Rattle.service.specs.Standing.{inForceOf, decidedOf, failedOf, settlesOf, tellsOf, declinesOf}
+use Rattle.standing.specs.Standing.{inForceOf, decidedOf, failedOf, settlesOf, tellsOf, declinesOf}
 use Rattle.service.specs.Cause.{cleared}
 use Rattle.service.specs.Element.{seenOf, notedOf, goesOutOf}
 use Rattle.rules.specs.Message.{sayingOf, bareOf}

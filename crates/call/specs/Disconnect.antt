@@ -6,10 +6,10 @@ use lib.Dec.{leb}
 use Rattle.service.specs.declared.cause.Cause.{Cause}
 use Rattle.service.specs.declared.element.Note.{Note}
 use Rattle.service.specs.declared.element.Seen.{Seen}
-use Rattle.service.specs.declared.standing.Answers.{Answers}
-use Rattle.service.specs.declared.standing.Facilities.{Facilities}
-use Rattle.service.specs.declared.standing.Standing.{Standing}
-use Rattle.service.specs.declared.standing.Standings.{Standings}
+use Rattle.standing.specs.declared.Answers.{Answers}
+use Rattle.standing.specs.declared.Facilities.{Facilities}
+use Rattle.standing.specs.declared.Standing.{Standing}
+use Rattle.standing.specs.declared.Standings.{Standings}
 use Rattle.rules.specs.declared.answer.Answer.{Answer}
 use Rattle.rules.specs.declared.message.Kind.{Kind}
 use Rattle.rules.specs.declared.message.Sent.{Sent}
@@ -17,7 +17,7 @@ use Rattle.rules.specs.declared.phase.Phase.{Phase}
 use Rattle.rules.specs.declared.side.Side.{Side}
 use Rattle.call.specs.declared.Call.{Call}
 use Rattle.call.specs.declared.reply.Reply.{Reply}
-use Rattle.service.specs.Standing.{inForceOf, awaitsOf, silentAnswers, rejectionOf, closingSaidOf, closingStandingOf}
+use Rattle.standing.specs.Standing.{inForceOf, awaitsOf, silentAnswers, rejectionOf, closingSaidOf, closingStandingOf}
 use Rattle.service.specs.Cause.{greatestCause}
 use Rattle.service.specs.Element.{seenOf, notedOf, goesOutOf}
 use Rattle.rules.specs.Message.{sayingOf, bareOf}

@@ -3,18 +3,18 @@ use Prim.Native.Nat.{ℕ}
 use mathlib.Core.Bool.{true, false, cond, _||_, not}
 use Rattle.service.specs.declared.cause.Cause.{Cause}
 use Rattle.service.specs.declared.element.Note.{Note}
-use Rattle.service.specs.declared.standing.Said.{Said}
+use Rattle.standing.specs.declared.Said.{Said}
 use Rattle.rules.specs.declared.answer.Answer.{Answer}
-use Rattle.rules.specs.declared.asking.What.{What}
+use Rattle.asking.specs.declared.What.{What}
 use Rattle.rules.specs.declared.message.Kind.{Kind}
 use Rattle.rules.specs.declared.message.Sent.{Sent}
 use Rattle.rules.specs.declared.side.Side.{Side}
 use Rattle.call.specs.declared.Call.{Call}
 use Rattle.call.specs.declared.Meters.{Meters}
 use Rattle.call.specs.declared.reply.Reply.{Reply}
-use Rattle.service.specs.Standing.{inForceOf}
+use Rattle.standing.specs.Standing.{inForceOf}
 use Rattle.rules.specs.Message.{sayingOf, onlyIfOf}
-use Rattle.rules.specs.Asking.{asksOf, mayAskOf, toRequestOf, toAnswerOf, facilityAnswerOf, facilitySaidOf, facilityAskingOf, facilityThreeOf, notGrantedOf}
+use Rattle.asking.specs.Asking.{asksOf, mayAskOf, toRequestOf, toAnswerOf, facilityAnswerOf, facilitySaidOf, facilityAskingOf, facilityThreeOf, notGrantedOf}
 use Rattle.rules.specs.Side.{peerOf}
 use Rattle.rules.specs.Answer.{takenOf}
 use Rattle.rules.specs.Phase.{activeOf}

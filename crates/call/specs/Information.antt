@@ -13,7 +13,7 @@ use Rattle.call.specs.declared.Call.{Call}
 use Rattle.call.specs.declared.Meters.{Meters}
 use Rattle.call.specs.declared.reply.Reply.{Reply}
 use Rattle.meter.specs.Meter.{passageOf, afterOf}
-use Rattle.service.specs.Standing.{inForceOf}
+use Rattle.standing.specs.Standing.{inForceOf}
 use Rattle.service.specs.Element.{seenOf, wholeOf, notedOf}
 use Rattle.rules.specs.Message.{congestionOf, informsOf, onlyIfOf}
 use Rattle.rules.specs.Phase.{talkingOf}

@@ -5,9 +5,9 @@ use mathlib.Core.Bool.{Bool, false, cond, _&&_, not}
 use Rattle.service.specs.declared.cause.Cause.{Cause}
 use Rattle.service.specs.declared.element.Seen.{Seen}
 use Rattle.service.specs.declared.rights.Rights.{Rights}
-use Rattle.service.specs.declared.standing.Facilities.{Facilities}
-use Rattle.service.specs.declared.standing.Requests.{Requests}
-use Rattle.service.specs.declared.standing.Standings.{Standings}
+use Rattle.standing.specs.declared.Facilities.{Facilities}
+use Rattle.standing.specs.declared.Requests.{Requests}
+use Rattle.standing.specs.declared.Standings.{Standings}
 use Rattle.rules.specs.declared.answer.Answer.{Answer}
 use Rattle.rules.specs.declared.message.Kind.{Kind}
 use Rattle.rules.specs.declared.message.Sent.{Sent}
@@ -15,11 +15,11 @@ use Rattle.rules.specs.declared.phase.Phase.{Phase}
 use Rattle.call.specs.declared.Call.{Call}
 use Rattle.call.specs.declared.reply.Reply.{Reply}
 use Rattle.service.specs.Rights.{rightsFitOf, referenceFitsOf}
-use Rattle.service.specs.Standing.{remainsOf, standingsOf, lacksOf, passedRequestsOf, networkRefusalsOf}
+use Rattle.standing.specs.Standing.{remainsOf, standingsOf, lacksOf, passedRequestsOf, networkRefusalsOf}
 use Rattle.service.specs.Cause.{notSubscribed}
 use Rattle.service.specs.Element.{seenOf, notedOf, goesOutOf}
 use Rattle.rules.specs.Message.{sayingOf}
-use Rattle.rules.specs.Asking.{nobodyAsks}
+use Rattle.asking.specs.Asking.{nobodyAsks}
 use Rattle.rules.specs.Phase.{freshOf}
 use Rattle.call.specs.Sound.{emptyMeters}
 use Rattle.call.specs.Reply.{barOf, heardOf}

@@ -1,14 +1,14 @@
 -- A fresh record, and number 25 for one record.
 use mathlib.Core.Bool.{Bool, true, false, cond, _&&_}
 use Rattle.service.specs.declared.rights.Rights.{Rights}
-use Rattle.service.specs.declared.standing.Standing.{Standing}
-use Rattle.service.specs.declared.standing.Standings.{Standings}
+use Rattle.standing.specs.declared.Standing.{Standing}
+use Rattle.standing.specs.declared.Standings.{Standings}
 use Rattle.rules.specs.declared.phase.Phase.{Phase}
 use Rattle.call.specs.declared.Call.{Call}
 use Rattle.call.specs.declared.Meters.{Meters}
 use Rattle.meter.specs.Meter.{emptyOf, meterFitsOf}
 use Rattle.service.specs.Rights.{rightsFitOf, referenceFitsOf}
-use Rattle.rules.specs.Asking.{nobodyAsks}
+use Rattle.asking.specs.Asking.{nobodyAsks}
 use Rattle.rules.specs.Phase.{liveOf}
 
 unfoldable pub noRights : Rights

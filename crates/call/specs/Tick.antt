@@ -10,7 +10,7 @@ use Rattle.call.specs.declared.Call.{Call}
 use Rattle.call.specs.declared.Meters.{Meters}
 use Rattle.call.specs.declared.reply.Reply.{Reply}
 use Rattle.meter.specs.Meter.{tickedOf}
-use Rattle.service.specs.Standing.{inForceOf}
+use Rattle.standing.specs.Standing.{inForceOf}
 use Rattle.rules.specs.Message.{congestionOf, onlyIfOf}
 use Rattle.rules.specs.Phase.{liveOf}
 use Rattle.rules.specs.Serving.{servesThreeOf}

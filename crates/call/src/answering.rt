@@ -22,17 +22,17 @@ use service::element::Seen;
 use service::element::goes_out;
 use service::element::look;
 use service::element::noted;
-use service::standing::Answers;
-use service::standing::Fate;
-use service::standing::Fates;
-use service::standing::Given;
-use service::standing::Standings;
-use service::standing::decided;
-use service::standing::declines;
-use service::standing::failed;
-use service::standing::in_force;
-use service::standing::settles;
-use service::standing::tells;
+use standing::Answers;
+use standing::Fate;
+use standing::Fates;
+use standing::Given;
+use standing::Standings;
+use standing::decided;
+use standing::declines;
+use standing::failed;
+use standing::in_force;
+use standing::settles;
+use standing::tells;
 
 // Service 3 comes into force.
 pub fn grants(m: Meters, burst: u16) -> Meters

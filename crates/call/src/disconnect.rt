@@ -23,16 +23,16 @@ use service::element::Seen;
 use service::element::goes_out;
 use service::element::look;
 use service::element::noted;
-use service::standing::Answers;
-use service::standing::Facilities;
-use service::standing::Standing;
-use service::standing::Standings;
-use service::standing::awaits;
-use service::standing::closing_said;
-use service::standing::closing_standing;
-use service::standing::in_force;
-use service::standing::no_answers;
-use service::standing::rejection;
+use standing::Answers;
+use standing::Facilities;
+use standing::Standing;
+use standing::Standings;
+use standing::awaits;
+use standing::closing_said;
+use standing::closing_standing;
+use standing::in_force;
+use standing::no_answers;
+use standing::rejection;
 
 // Only the called side has anything to answer.
 pub fn heard_answers(side: Side, a: Answers) -> Answers

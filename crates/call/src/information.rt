@@ -30,7 +30,7 @@ use service::element::Seen;
 use service::element::look;
 use service::element::noted;
 use service::element::whole;
-use service::standing::in_force;
+use standing::in_force;
 
 // The meter of what a side sends.
 pub fn meter_of(m: Meters, side: Side) -> Meter

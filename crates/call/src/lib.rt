@@ -1,13 +1,13 @@
 // One call: its record, the events that it takes, and the replies.
+use asking::Asking;
+use asking::What;
 use meter::Meter;
-use rules::asking::Asking;
-use rules::asking::What;
 use rules::phase::Phase;
 use rules::side::Side;
 use service::rights::Rights;
-use service::standing::Answers;
-use service::standing::Requests;
-use service::standing::Standings;
+use standing::Answers;
+use standing::Requests;
+use standing::Standings;
 
 pub mod answering;
 pub mod disconnect;

@@ -6,8 +6,8 @@ use crate::reply::Reply;
 use crate::reply::barred;
 use crate::reply::heard;
 use crate::sound::empty_meters;
+use asking::nobody_asks;
 use rules::answer::Answer;
-use rules::asking::nobody_asks;
 use rules::message::Kind;
 use rules::message::Sent;
 use rules::message::saying;
@@ -22,14 +22,14 @@ use service::element::noted;
 use service::rights::Rights;
 use service::rights::reference_fits;
 use service::rights::rights_fit;
-use service::standing::Facilities;
-use service::standing::Requests;
-use service::standing::Standings;
-use service::standing::lacks;
-use service::standing::network_refusals;
-use service::standing::passed_requests;
-use service::standing::remains;
-use service::standing::standings_of;
+use standing::Facilities;
+use standing::Requests;
+use standing::Standings;
+use standing::lacks;
+use standing::network_refusals;
+use standing::passed_requests;
+use standing::remains;
+use standing::standings_of;
 
 pub fn setup_phase(lacking: bool) -> Phase
     ensures { λ r. ⌜ r ≡ setupPhaseOf lacking ⌝ }

@@ -4,16 +4,16 @@ ghost use Rattle.call.specs.Sound.{noRights, emptyMeters, noServices, fi
 ghost use Rattle.rules.specs.Phase.{liveOf};
 use crate::Call;
 use crate::Meters;
+use asking::nobody_asks;
 use meter::empty;
 use meter::meter_fits;
-use rules::asking::nobody_asks;
 use rules::phase::Phase;
 use rules::phase::is_live;
 use service::rights::Rights;
 use service::rights::reference_fits;
 use service::rights::rights_fit;
-use service::standing::Standing;
-use service::standing::Standings;
+use standing::Standing;
+use standing::Standings;
 
 pub fn no_rights() -> Rights
     ensures { λ r. ⌜ r ≡ noRights ⌝ }

@@ -18,7 +18,7 @@ use rules::phase::is_live;
 use rules::serving::serves_three;
 use service::element::Note;
 use service::rights::Rights;
-use service::standing::in_force;
+use standing::in_force;
 
 pub fn ticked_meters(m: Meters, r: Rights) -> Meters
     ensures { λ n. ⌜ n ≡ tickedMetersOf m r ⌝ }

@@ -7,12 +7,12 @@ use native.Mathlib.Omega.{arith}
 use borrow.Author.Tests.{ltb-true, ltb-false}
 use lib.Dec.{ltb, leb, eqb}
 use lib.ListN.{length, getD, drop, length-append}
-use Rattle.component.specs.declared.cause.Cause.{Cause}
+use Rattle.cause.specs.declared.Cause.{Cause}
 use Rattle.component.specs.declared.facility.Wish.{Wish}
 use Rattle.component.specs.declared.facility.Refusal.{Refusal}
 use Rattle.component.specs.declared.facility.Component.{Component}
 use Rattle.component.specs.declared.facility.Facility.{Facility}
-use Rattle.component.specs.Cause.{causeOf}
+use Rattle.cause.specs.Cause.{causeOf}
 use Rattle.component.specs.Facility.{Slot, serviceOf, wishOf, refusalOf, invokeSays, errorSays, readAs, invokeForm, resultForm, errorForm, invokeOf, resultOf, errorOf, or, facilityOf, spells, invokeNumber}
 use Rattle.fields.specs.declared.kind.Typed.{Typed}
 use Rattle.fields.specs.declared.Width.{Width}

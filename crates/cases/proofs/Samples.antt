@@ -3,8 +3,8 @@ use mathlib.Core.Path.{refl}
 use Rattle.meter.specs.Meter.{emptyOf, meterFitsOf, grantedOf, countedOf, spentOf, markedOf, refilledOf, tickedOf, underThreeOf, passageOf}
 use Rattle.service.specs.Element.{wellFormedOf, seenOf, goesOutOf}
 use Rattle.service.specs.Rights.{rightsFitOf, referenceFitsOf}
-use Rattle.service.specs.Standing.{remainsOf, firstStandingOf, standingsOf, lacksOf, passedRequestsOf, networkRefusalsOf, failedOf, settlesOf, tellsOf, declinesOf, silence, silentAnswers}
-use Rattle.rules.specs.Asking.{nobodyAsks, toRequestOf, toAnswerOf}
+use Rattle.standing.specs.Standing.{remainsOf, firstStandingOf, standingsOf, lacksOf, passedRequestsOf, networkRefusalsOf, failedOf, settlesOf, tellsOf, declinesOf, silence, silentAnswers}
+use Rattle.asking.specs.Asking.{nobodyAsks, toRequestOf, toAnswerOf}
 use Rattle.rules.specs.Message.{sayingOf, bareOf, congestionOf, informsOf, onlyIfOf}
 use Rattle.call.specs.Sound.{noRights, noServices, emptyMeters, freshCall, fieldsFitOf, soundOf, inPhaseOf}
 use Rattle.call.specs.Reply.{barOf, refusedOf, heardOf, replyOf}
@@ -15,7 +15,7 @@ use Rattle.call.specs.Disconnect.{closingFacilitiesOf, closedCallOf, passedOnOf
 use Rattle.call.specs.Facility.{facilityVerdictOf, facilityCallOf, aboutThreeOf, passesFacilityOf, facilityOf}
 use Rattle.call.specs.Tick.{tickedMetersOf, refillsOf, readyOf, runsOf, passesTickOf, tickOf}
 use Rattle.call.specs.Step.{notAnEventOf}
-use Rattle.component.specs.Cause.{causeOf}
+use Rattle.cause.specs.Cause.{causeOf}
 use Rattle.component.specs.Facility.{size, stand, spells, filled, serviceOf, wishOf, refusalOf, readAs, invokeOf, resultOf, errorOf, facilityOf as componentOf}
 use Rattle.room.specs.Room.{placed, wroteOf, leftOf}
 use Rattle.message.specs.Elements.{then, elements, counted}

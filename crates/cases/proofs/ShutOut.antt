@@ -5,8 +5,8 @@ use mathlib.Core.Logic.{inl}
 use mathlib.Core.Path.{_≡_, refl, ap, sym, _∙_}
 use native.Mathlib.Omega.{arith}
 use Rattle.service.specs.declared.rights.Service.{Service}
-use Rattle.service.specs.declared.standing.Given.{Given}
-use Rattle.service.specs.declared.standing.Standing.{Standing}
+use Rattle.standing.specs.declared.Given.{Given}
+use Rattle.standing.specs.declared.Standing.{Standing}
 use Rattle.rules.specs.declared.message.Sent.{Sent}
 use Rattle.rules.specs.declared.phase.Phase.{Phase}
 use Rattle.call.specs.declared.Event.{Event}
@@ -16,8 +16,8 @@ use Rattle.call.specs.Step.{stepOf}
 use Rattle.meter.specs.Meter.{emptyOf, meterFitsOf, grantedOf, countedOf, spentOf, markedOf, refilledOf, tickedOf, underThreeOf, passageOf}
 use Rattle.service.specs.Element.{wellFormedOf, seenOf, goesOutOf}
 use Rattle.service.specs.Rights.{rightsFitOf, referenceFitsOf}
-use Rattle.service.specs.Standing.{remainsOf, firstStandingOf, standingsOf, lacksOf, passedRequestsOf, networkRefusalsOf, failedOf, settlesOf, tellsOf, declinesOf, silence, silentAnswers}
-use Rattle.rules.specs.Asking.{nobodyAsks, toRequestOf, toAnswerOf}
+use Rattle.standing.specs.Standing.{remainsOf, firstStandingOf, standingsOf, lacksOf, passedRequestsOf, networkRefusalsOf, failedOf, settlesOf, tellsOf, declinesOf, silence, silentAnswers}
+use Rattle.asking.specs.Asking.{nobodyAsks, toRequestOf, toAnswerOf}
 use Rattle.rules.specs.Message.{sayingOf, bareOf, congestionOf, informsOf, onlyIfOf}
 use Rattle.call.specs.Sound.{noRights, noServices, emptyMeters, freshCall, fieldsFitOf, soundOf, inPhaseOf}
 use Rattle.call.specs.Reply.{barOf, refusedOf, heardOf, replyOf}

@@ -6,9 +6,9 @@ use mathlib.Core.Path.{_≡_}
 use lib.ListN.{replicate}
 use Rattle.service.specs.declared.cause.Cause.{Cause}
 use Rattle.service.specs.declared.rights.Rights.{Rights}
-use Rattle.service.specs.declared.standing.Answers.{Answers}
-use Rattle.service.specs.declared.standing.Given.{Given}
-use Rattle.service.specs.declared.standing.Request.{Request}
+use Rattle.standing.specs.declared.Answers.{Answers}
+use Rattle.standing.specs.declared.Given.{Given}
+use Rattle.standing.specs.declared.Request.{Request}
 use Rattle.service.specs.Element.{noteNumberOf}
 use Rattle.rules.specs.declared.message.Kind.{Kind}
 use Rattle.rules.specs.declared.message.Sent.{Sent}

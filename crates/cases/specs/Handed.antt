@@ -3,10 +3,10 @@ use mathlib.Core.List.{List, [], _∷_, _++_}
 use mathlib.Core.Bool.{true, false}
 use mathlib.Core.Path.{_≡_}
 use Rattle.service.specs.declared.rights.Service.{Service}
-use Rattle.service.specs.declared.standing.Answers.{Answers}
-use Rattle.service.specs.declared.standing.Given.{Given}
-use Rattle.service.specs.declared.standing.Request.{Request}
-use Rattle.rules.specs.declared.asking.What.{What}
+use Rattle.standing.specs.declared.Answers.{Answers}
+use Rattle.standing.specs.declared.Given.{Given}
+use Rattle.standing.specs.declared.Request.{Request}
+use Rattle.asking.specs.declared.What.{What}
 use Rattle.rules.specs.declared.phase.Phase.{Phase}
 use Rattle.rules.specs.declared.side.Side.{Side}
 use Rattle.call.specs.declared.Event.{Event}

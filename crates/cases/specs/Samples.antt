@@ -7,8 +7,8 @@ use lib.ListN.{take, replicate}
 use Rattle.room.specs.declared.Wrote.{Wrote}
 use Rattle.fields.specs.declared.Width.{Width}
 use Rattle.message.specs.Reading.{userUserOf}
-use Rattle.service.specs.declared.standing.Given.{Given}
-use Rattle.service.specs.declared.standing.Request.{Request}
+use Rattle.standing.specs.declared.Given.{Given}
+use Rattle.standing.specs.declared.Request.{Request}
 use Rattle.rules.specs.declared.message.Sent.{Sent}
 use Rattle.rules.specs.declared.side.Side.{Side}
 use Rattle.call.specs.declared.Event.{Event}

@@ -5,7 +5,7 @@ use mathlib.Core.Bool.{true}
 use mathlib.Core.Path.{_≡_, refl}
 use native.Mathlib.Omega.{arith}
 use borrow.Author.Tests.{ltb-true}
-use Rattle.component.specs.declared.cause.Cause.{Cause}
+use Rattle.cause.specs.declared.Cause.{Cause}
 use Rattle.component.specs.declared.facility.Service.{Service}
 use Rattle.component.specs.declared.facility.Wish.{Wish}
 use Rattle.component.specs.declared.facility.Refusal.{Refusal}
@@ -13,7 +13,7 @@ use Rattle.component.specs.declared.facility.Component.{Component}
 use Rattle.component.specs.declared.facility.Facility.{Facility}
 use Rattle.component.specs.declared.facility.Named.{Named}
 use Rattle.component.specs.declared.facility.Told.{Told}
-use Rattle.component.specs.Cause.{causeOf, causeFits}
+use Rattle.cause.specs.Cause.{causeOf, causeFits}
 use Rattle.component.specs.Facility.{size, stand, spells, filled, serviceOf, wishOf, refusalOf, readAs, invokeOf, resultOf, errorOf, facilityOf, serviceOctet, wishOctet, refusalOctet, componentFits, bodyOf}
 
 service-back : (s : Service) → serviceOf (serviceOctet s) ≡ Named.Service s

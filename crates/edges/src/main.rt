@@ -1,21 +1,21 @@
 // Runs cases of calls that are easy to get wrong, and a whole call with every service, and prints a line for each event:
 // its name, the answer, the note, and the type and cause of the message to the calling and to the called user.
+use asking::What;
 use call::Call;
 use call::Event;
 use call::reply::Reply;
 use libc::STDOUT_FILENO;
 use rules::answer::number;
-use rules::asking::What;
 use rules::message::Sent;
 use rules::message::kind_number;
 use rules::side::Side;
 use service::cause::Cause;
 use service::element::note_number;
 use service::rights::Rights;
-use service::standing::Answers;
-use service::standing::Given;
-use service::standing::Request;
-use service::standing::Requests;
+use standing::Answers;
+use standing::Given;
+use standing::Request;
+use standing::Requests;
 
 fn show_cause(c: Cause) {
     match c {

@@ -17,10 +17,10 @@ use Rattle.rules.specs.declared.phase.Phase.{Phase}
 use Rattle.rules.specs.Phase.{liveOf}
 use Rattle.call.specs.declared.Call.{Call}
 use Rattle.call.specs.Sound.{freshCall, soundOf, fieldsFitOf}
-use Rattle.settling.specs.Look.{liveAs, freeOf, isAt}
+use Rattle.choosing.specs.Look.{liveAs, freeOf, isAt}
 use Rattle.exchange.specs.Table.{greatestTable, findFrom, placeFrom, heldIn, callsSound, tableSound}
 use Rattle.exchange.specs.Promises.{Free, LiveAt, Held, Full, RightsIn, ReferenceIn, MeterIn, FieldsIn, Faulty, over, twins, unsound, heldCall, Lowest}
-use Rattle.settling.specs.declared.look.Found.{Found}
+use Rattle.choosing.specs.declared.look.Found.{Found}
 use Rattle.exchange.proofs.Searched.{at-held}
 use Rattle.exchange.proofs.Within.{same-found}
 

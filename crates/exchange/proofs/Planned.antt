@@ -7,7 +7,7 @@ use lib.ListN.{length, set}
 use Rattle.call.specs.declared.Call.{Call}
 use Rattle.call.specs.declared.Event.{Event}
 use Rattle.call.specs.Sound.{freshCall}
-use Rattle.settling.specs.declared.choice.Choice.{Choice}
+use Rattle.choosing.specs.declared.choice.Choice.{Choice}
 use Rattle.settling.specs.declared.plan.Put.{Put}
 use Rattle.exchange.specs.Chosen.{chosenOf}
 use Rattle.exchange.specs.Halves.{lookAt, lookOf, committed}

@@ -9,9 +9,9 @@ use lib.ListN.{length, getD, drop, drop-of-length-le}
 use Rattle.call.specs.declared.Call.{Call}
 use Rattle.call.specs.Sound.{freshCall, soundOf}
 use Rattle.rules.specs.Phase.{liveOf}
-use Rattle.settling.specs.Look.{liveAs, isAt, laterOf, faultOf}
+use Rattle.choosing.specs.Look.{liveAs, isAt, laterOf, faultOf}
 use Rattle.exchange.specs.Table.{findFrom, heldIn, callsSound}
-use Rattle.settling.specs.declared.look.Found.{Found}
+use Rattle.choosing.specs.declared.look.Found.{Found}
 use Rattle.exchange.proofs.Along.{one-more, dropped}
 
 -- a record is found exactly if there is one

@@ -9,13 +9,13 @@ use lib.ListN.{length}
 use Rattle.rules.specs.declared.answer.Answer.{Answer}
 use Rattle.call.specs.declared.Call.{Call}
 use Rattle.call.specs.declared.Event.{Event}
-use Rattle.settling.specs.Look.{liveAs, freeOf}
+use Rattle.choosing.specs.Look.{liveAs, freeOf}
 use Rattle.exchange.specs.Table.{findFrom, placeFrom, tableSound}
 use Rattle.exchange.specs.Chosen.{chosenOf}
-use Rattle.settling.specs.Choice.{referenceOf, opensOf, rangedOf, newPlaceOf, oldPlaceOf, chooseOf}
-use Rattle.settling.specs.declared.look.Found.{Found}
-use Rattle.settling.specs.declared.choice.Choice.{Choice}
-use Rattle.settling.specs.declared.choice.Verdict.{Verdict}
+use Rattle.choosing.specs.Choice.{referenceOf, opensOf, rangedOf, newPlaceOf, oldPlaceOf, chooseOf}
+use Rattle.choosing.specs.declared.look.Found.{Found}
+use Rattle.choosing.specs.declared.choice.Choice.{Choice}
+use Rattle.choosing.specs.declared.choice.Verdict.{Verdict}
 
 -- the number of a place
 found-number : Found → ℕ

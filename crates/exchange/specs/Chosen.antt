@@ -3,9 +3,9 @@ use Prim.Native.Nat.{ℕ}
 use mathlib.Core.List.{List}
 use Rattle.call.specs.declared.Call.{Call}
 use Rattle.call.specs.declared.Event.{Event}
-use Rattle.settling.specs.declared.choice.Choice.{Choice}
+use Rattle.choosing.specs.declared.choice.Choice.{Choice}
 use Rattle.exchange.specs.Table.{tableSound, findFrom, placeFrom}
-use Rattle.settling.specs.Choice.{referenceOf, chooseOf}
+use Rattle.choosing.specs.Choice.{referenceOf, chooseOf}
 
 unfoldable pub chosenOf : List Call → ℕ → Event → Choice
 chosenOf t n e = chooseOf (tableSound t) e (findFrom t 0 (referenceOf n e)) (placeFrom t 0)

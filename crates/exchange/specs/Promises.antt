@@ -14,8 +14,8 @@ use Rattle.call.specs.declared.Call.{Call}
 use Rattle.call.specs.declared.Event.{Event}
 use Rattle.call.specs.Sound.{freshCall}
 use Rattle.call.specs.Step.{stepOf}
-use Rattle.settling.specs.Look.{liveAs}
-use Rattle.settling.specs.Choice.{verdictNumber}
+use Rattle.choosing.specs.Look.{liveAs}
+use Rattle.choosing.specs.Choice.{verdictNumber}
 use Rattle.exchange.specs.Step.{stepOutcome, stepTable}
 
 -- "Places Fresh or Ended are free, all others are live"

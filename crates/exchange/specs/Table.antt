@@ -7,8 +7,8 @@ use lib.ListN.{length}
 use Rattle.call.specs.declared.Call.{Call}
 use Rattle.call.specs.Sound.{soundOf}
 use Rattle.rules.specs.Phase.{liveOf}
-use Rattle.settling.specs.declared.look.Found.{Found}
-use Rattle.settling.specs.Look.{liveAs, freeOf}
+use Rattle.choosing.specs.declared.look.Found.{Found}
+use Rattle.choosing.specs.Look.{liveAs, freeOf}
 
 -- "a lent table of at most 32 records"
 abbrev pub greatestTable : ℕ

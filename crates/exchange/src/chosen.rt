@@ -6,9 +6,9 @@ use crate::table::place;
 use crate::table::sound;
 use call::Call;
 use call::Event;
-use settling::choice::Choice;
-use settling::choice::choose;
-use settling::choice::reference_of;
+use choosing::choice::Choice;
+use choosing::choice::choose;
+use choosing::choice::reference_of;
 
 // What the table says of an event.
 pub fn chosen(t: &[Call], reference: u16, event: Event) -> Choice

@@ -6,7 +6,7 @@ use crate::chosen::chosen;
 use crate::table::get;
 use call::Call;
 use call::Event;
-use settling::choice::Choice;
+use choosing::choice::Choice;
 use settling::plan::Looked;
 use settling::plan::Put;
 use settling::plan::barred;

@@ -6,11 +6,11 @@ ghost use lib.ListN.{length, getD, drop};
 ghost use Rattle.call.specs.Sound.{freshCall};
 ghost use Rattle.exchange.specs.Table.{findFrom, placeFrom, callsSound, tableSound};
 use call::Call;
-use settling::look::Found;
-use settling::look::at_fault;
-use settling::look::is_free;
-use settling::look::is_live_as;
-use settling::look::later;
+use choosing::look::Found;
+use choosing::look::at_fault;
+use choosing::look::is_free;
+use choosing::look::is_live_as;
+use choosing::look::later;
 
 // Records that a table has at most.
 pub const GREATEST_TABLE: usize = 32;

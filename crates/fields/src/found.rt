@@ -5,8 +5,8 @@ use crate::Facilities;
 use crate::Place;
 use crate::Single;
 use crate::kind::Kind;
-use component::cause::Cause;
-use component::cause::cause_in;
+use cause::Cause;
+use cause::cause_in;
 use component::facility::Facility;
 
 // Whether a Cause element was met, and what the first one says.

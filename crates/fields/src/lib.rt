@@ -3,7 +3,7 @@ pub mod found;
 pub mod kind;
 
 use crate::kind::Kind;
-use component::cause::Cause;
+use cause::Cause;
 use component::facility::Component;
 
 // How many octets the call reference has.

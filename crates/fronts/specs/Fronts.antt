@@ -6,7 +6,7 @@ use Rattle.call.specs.declared.Event.{Event}
 use Rattle.settling.specs.declared.plan.Looked.{Looked}
 use Rattle.settling.specs.declared.plan.Plan.{Plan}
 use Rattle.settling.specs.declared.settle.Outcome.{Outcome}
-use Rattle.settling.specs.Choice.{verdictNumber}
+use Rattle.choosing.specs.Choice.{verdictNumber}
 use Rattle.settling.specs.Plan.{planOf}
 use Rattle.trace.specs.declared.reading.Entry.{Entry}
 use Rattle.trace.specs.declared.reading.Fault.{Fault}

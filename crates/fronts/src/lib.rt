@@ -2,8 +2,8 @@
 ghost use mathlib.Core.Path.{_≡_};
 ghost use Rattle.fronts.specs.Fronts.{heardOf, frontOf, referenceIn, eventIn, plannedAt, columnsOf};
 use call::Event;
+use choosing::choice::verdict_number;
 use report::Columns;
-use settling::choice::verdict_number;
 use settling::plan::Looked;
 use settling::plan::Plan;
 use settling::plan::plans;

@@ -12,7 +12,7 @@ ghost use Rattle.text.specs.Hex.{hexOf};
 ghost use Rattle.text.specs.Pieces.{Piece};
 ghost use Rattle.line.specs.Columns.{wishLetter, flagDigit, headColumns, causeColumn, singleColumn, componentText, facilityColumn, elementColumn, takenColumns, columnsOf, column};
 ghost use Rattle.line.specs.Line.{lineOf, lineWith};
-use component::cause::Cause;
+use cause::Cause;
 use component::facility::Component;
 use component::facility::Refusal;
 use component::facility::Service;

@@ -8,7 +8,7 @@ use native.Mathlib.Omega.{arith}
 use borrow.Author.Tests.{lt-ltb, le-ltb, eq-eqb, ne-eqb, ltb-true, ltb-false, eqb-true}
 use lib.ListN.{length, getD}
 use lib.Dec.{ltb, eqb}
-use Rattle.component.specs.declared.cause.Cause.{Cause}
+use Rattle.cause.specs.declared.Cause.{Cause}
 use Rattle.component.specs.Facility.{invokeNumber}
 use Rattle.fields.specs.declared.kind.Kind.{Kind}
 use Rattle.fields.specs.declared.Width.{Width}

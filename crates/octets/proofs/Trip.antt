@@ -10,9 +10,9 @@ use borrow.Author.Tests.{ltb-true, le-leb, lt-leb, le-ltb}
 use lib.ListN.{length, getD, take, drop, length-append}
 use lib.Seq.{take-length, drop-at}
 use lib.Dec.{leb}
-use Rattle.component.specs.declared.cause.Cause.{Cause}
+use Rattle.cause.specs.declared.Cause.{Cause}
 use Rattle.component.specs.declared.facility.Component.{Component}
-use Rattle.component.specs.Cause.{causeOf}
+use Rattle.cause.specs.Cause.{causeOf}
 use Rattle.component.specs.Facility.{facilityOf, componentFits, bodyOf, facilityOctets}
 use Rattle.component.proofs.Back.{facility-back, cause-back}
 use Rattle.fields.specs.declared.kind.Kind.{Kind}

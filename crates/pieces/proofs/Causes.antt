@@ -11,17 +11,17 @@ use Rattle.service.specs.declared.cause.Cause.{Cause}
 use Rattle.service.specs.declared.element.Note.{Note}
 use Rattle.service.specs.declared.element.Seen.{Seen}
 use Rattle.service.specs.declared.rights.Rights.{Rights}
-use Rattle.service.specs.declared.standing.Answers.{Answers}
-use Rattle.service.specs.declared.standing.Facilities.{Facilities}
-use Rattle.service.specs.declared.standing.Fate.{Fate}
-use Rattle.service.specs.declared.standing.Fates.{Fates}
-use Rattle.service.specs.declared.standing.Given.{Given}
-use Rattle.service.specs.declared.standing.Requests.{Requests}
-use Rattle.service.specs.declared.standing.Standing.{Standing}
-use Rattle.service.specs.declared.standing.Standings.{Standings}
+use Rattle.standing.specs.declared.Answers.{Answers}
+use Rattle.standing.specs.declared.Facilities.{Facilities}
+use Rattle.standing.specs.declared.Fate.{Fate}
+use Rattle.standing.specs.declared.Fates.{Fates}
+use Rattle.standing.specs.declared.Given.{Given}
+use Rattle.standing.specs.declared.Requests.{Requests}
+use Rattle.standing.specs.declared.Standing.{Standing}
+use Rattle.standing.specs.declared.Standings.{Standings}
 use Rattle.service.specs.Cause.{firstOf}
 use Rattle.service.specs.Element.{wholeOf}
-use Rattle.service.specs.Standing.{lacksOf, decidedOf, failureOf, failedOf}
+use Rattle.standing.specs.Standing.{lacksOf, decidedOf, failureOf, failedOf}
 use Rattle.rules.specs.declared.answer.Answer.{Answer}
 use Rattle.rules.specs.declared.message.Kind.{Kind}
 use Rattle.rules.specs.declared.message.Level.{Level}
@@ -42,7 +42,7 @@ use Rattle.call.specs.Facility.{aboutThreeOf, passesFacilityOf, facilityOf}
 use Rattle.call.specs.Disconnect.{passedOnOf, disconnectOf, endsOf, releaseCompleteOf}
 use Rattle.call.specs.Tick.{readyOf, passesTickOf, tickOf}
 use Rattle.call.specs.Step.{notAnEventOf, stepOf}
-use Rattle.settling.specs.declared.choice.Choice.{Choice}
+use Rattle.choosing.specs.declared.choice.Choice.{Choice}
 use Rattle.settling.specs.declared.settle.Outcome.{Outcome}
 use Rattle.exchange.specs.Chosen.{chosenOf}
 use Rattle.settling.specs.Settle.{settledOf, refusalOf, outcomeOf as settledOutcome}

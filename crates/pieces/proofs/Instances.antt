@@ -9,8 +9,8 @@ use lib.Dec.{ltb}
 use Rattle.meter.specs.Meter.{emptyOf, meterFitsOf}
 use Rattle.service.specs.Element.{wellFormedOf, seenOf, goesOutOf}
 use Rattle.service.specs.Rights.{rightsFitOf, referenceFitsOf}
-use Rattle.service.specs.Standing.{remainsOf, firstStandingOf, standingsOf, lacksOf, passedRequestsOf, networkRefusalsOf}
-use Rattle.rules.specs.Asking.{nobodyAsks}
+use Rattle.standing.specs.Standing.{remainsOf, firstStandingOf, standingsOf, lacksOf, passedRequestsOf, networkRefusalsOf}
+use Rattle.asking.specs.Asking.{nobodyAsks}
 use Rattle.rules.specs.Message.{sayingOf, onlyIfOf}
 use Rattle.call.specs.Sound.{noRights, noServices, emptyMeters, freshCall, fieldsFitOf, soundOf}
 use Rattle.call.specs.Reply.{barOf, refusedOf, heardOf}
@@ -19,7 +19,7 @@ use Rattle.call.specs.Information.{metersOf}
 use Rattle.call.specs.Tick.{refillsOf, readyOf, runsOf, passesTickOf, tickOf}
 use Rattle.exchange.specs.Table.{tableSound}
 use Rattle.exchange.specs.Chosen.{chosenOf}
-use Rattle.settling.specs.Choice.{chooseOf}
+use Rattle.choosing.specs.Choice.{chooseOf}
 use Rattle.settling.specs.Settle.{subjectOf, keptOf, outcomeOf, refusalOf, settledOf}
 use Rattle.exchange.specs.Step.{stepOutcome, stepTable}
 use Rattle.body.specs.Kind.{kindOf}

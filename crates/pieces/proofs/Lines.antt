@@ -7,7 +7,7 @@ use native.Mathlib.Omega.{arith}
 use lib.ListN.{length, length-append}
 use Rattle.service.specs.declared.cause.Cause.{Cause}
 use Rattle.service.specs.declared.element.Note.{Note}
-use Rattle.service.specs.declared.standing.Said.{Said}
+use Rattle.standing.specs.declared.Said.{Said}
 use Rattle.service.specs.Element.{noteNumberOf}
 use Rattle.rules.specs.declared.answer.Answer.{Answer}
 use Rattle.rules.specs.declared.message.Level.{Level}
@@ -15,8 +15,8 @@ use Rattle.rules.specs.declared.message.Message.{Message}
 use Rattle.rules.specs.declared.message.Sent.{Sent}
 use Rattle.rules.specs.Answer.{numberOf}
 use Rattle.call.specs.declared.Call.{Call}
-use Rattle.settling.specs.declared.choice.Verdict.{Verdict}
-use Rattle.settling.specs.Choice.{verdictNumber}
+use Rattle.choosing.specs.declared.choice.Verdict.{Verdict}
+use Rattle.choosing.specs.Choice.{verdictNumber}
 use Rattle.exchange.specs.Step.{stepOutcome}
 use Rattle.body.specs.declared.kind.Kind.{Kind}
 use Rattle.trace.specs.declared.reading.Entry.{Entry}

@@ -5,7 +5,7 @@ use mathlib.Core.Bool.{Bool, true, false, cond}
 use mathlib.Core.Path.{_≡_, refl, sym, ap, _∙_}
 use borrow.Author.Tests.{eq-eqb, ne-eqb}
 use lib.Dec.{eqb}
-use Rattle.component.specs.declared.cause.Cause.{Cause as LineCause}
+use Rattle.cause.specs.declared.Cause.{Cause as LineCause}
 use Rattle.component.specs.declared.facility.Component.{Component}
 use Rattle.component.specs.declared.facility.Facility.{Facility}
 use Rattle.component.specs.declared.facility.Refusal.{Refusal}
@@ -20,8 +20,8 @@ use Rattle.message.specs.Reading.{andSays, firstThree}
 use Rattle.octets.proofs.Promises.{alike}
 use Rattle.octets.proofs.Range.{range-fits}
 use Rattle.service.specs.declared.cause.Cause.{Cause}
-use Rattle.service.specs.declared.standing.Facilities.{Facilities}
-use Rattle.service.specs.declared.standing.Said.{Said}
+use Rattle.standing.specs.declared.Facilities.{Facilities}
+use Rattle.standing.specs.declared.Said.{Said}
 use Rattle.rules.specs.declared.message.Kind.{Kind}
 use Rattle.rules.specs.declared.message.Level.{Level}
 use Rattle.rules.specs.declared.message.Message.{Message}

@@ -6,13 +6,13 @@ use mathlib.Core.Path.{_≡_, refl}
 use Rattle.meter.specs.declared.Meter.{Meter}
 use Rattle.service.specs.declared.rights.Rights.{Rights}
 use Rattle.service.specs.declared.rights.Service.{Service}
-use Rattle.service.specs.declared.standing.Standing.{Standing}
+use Rattle.standing.specs.declared.Standing.{Standing}
 use Rattle.rules.specs.declared.phase.Phase.{Phase}
 use Rattle.rules.specs.declared.side.Side.{Side}
 use Rattle.call.specs.declared.Call.{Call}
 use Rattle.meter.specs.Meter.{meterFitsOf}
 use Rattle.service.specs.Rights.{hasOf, within, rightsFitOf, referenceFitsOf}
-use Rattle.service.specs.Standing.{inForceOf}
+use Rattle.standing.specs.Standing.{inForceOf}
 use Rattle.rules.specs.Phase.{freshOf, requestedOf, connectableOf, talkingOf, activeOf, upOf, liveOf}
 use Rattle.rules.specs.Serving.{lateOf, servesTwoOf, servesThreeOf}
 use Rattle.call.specs.Sound.{fieldsFitOf, soundOf}

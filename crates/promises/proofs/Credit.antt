@@ -13,17 +13,17 @@ use Rattle.meter.specs.declared.Passage.{Passage}
 use Rattle.service.specs.declared.cause.Cause.{Cause}
 use Rattle.service.specs.declared.element.Seen.{Seen}
 use Rattle.service.specs.declared.rights.Rights.{Rights}
-use Rattle.service.specs.declared.standing.Answers.{Answers}
-use Rattle.service.specs.declared.standing.Fate.{Fate}
-use Rattle.service.specs.declared.standing.Fates.{Fates}
-use Rattle.service.specs.declared.standing.Given.{Given}
-use Rattle.service.specs.declared.standing.Request.{Request}
-use Rattle.service.specs.declared.standing.Requests.{Requests}
-use Rattle.service.specs.declared.standing.Standing.{Standing}
-use Rattle.service.specs.declared.standing.Standings.{Standings}
+use Rattle.standing.specs.declared.Answers.{Answers}
+use Rattle.standing.specs.declared.Fate.{Fate}
+use Rattle.standing.specs.declared.Fates.{Fates}
+use Rattle.standing.specs.declared.Given.{Given}
+use Rattle.standing.specs.declared.Request.{Request}
+use Rattle.standing.specs.declared.Requests.{Requests}
+use Rattle.standing.specs.declared.Standing.{Standing}
+use Rattle.standing.specs.declared.Standings.{Standings}
 use Rattle.rules.specs.declared.answer.Answer.{Answer}
-use Rattle.rules.specs.declared.asking.Asking.{Asking}
-use Rattle.rules.specs.declared.asking.What.{What}
+use Rattle.asking.specs.declared.Asking.{Asking}
+use Rattle.asking.specs.declared.What.{What}
 use Rattle.rules.specs.declared.message.Kind.{Kind}
 use Rattle.rules.specs.declared.phase.Phase.{Phase}
 use Rattle.rules.specs.declared.side.Side.{Side}
@@ -34,9 +34,9 @@ use Rattle.call.specs.declared.reply.Reply.{Reply}
 use Rattle.meter.specs.Meter.{emptyOf, grantedOf, refilledOf, tickedOf, countedOf, spentOf, markedOf, underThreeOf, passageOf, afterOf}
 use Rattle.service.specs.Cause.{firstOf}
 use Rattle.service.specs.Element.{wellFormedOf, seenOf, wholeOf}
-use Rattle.service.specs.Standing.{inForceOf, askedStandingOf, firstStandingOf, lackingOf, standingsOf, lacksOf, decidedOf, settledOf, settlesOf, failureOf, failedOf}
+use Rattle.standing.specs.Standing.{inForceOf, askedStandingOf, firstStandingOf, lackingOf, standingsOf, lacksOf, decidedOf, settledOf, settlesOf, failureOf, failedOf}
 use Rattle.rules.specs.Answer.{numberOf, takenOf}
-use Rattle.rules.specs.Asking.{asksOf, mayAskOf, toRequestOf, toAnswerOf}
+use Rattle.asking.specs.Asking.{asksOf, mayAskOf, toRequestOf, toAnswerOf}
 use Rattle.rules.specs.Phase.{requestedOf, connectableOf, talkingOf, activeOf, liveOf}
 use Rattle.rules.specs.Serving.{servesTwoOf, servesThreeOf, passageAnswerOf}
 use Rattle.rules.specs.Side.{peerOf}

@@ -12,10 +12,10 @@ use Rattle.service.specs.declared.element.Note.{Note}
 use Rattle.service.specs.declared.element.Seen.{Seen}
 use Rattle.service.specs.declared.rights.Rights.{Rights}
 use Rattle.service.specs.declared.rights.Service.{Service}
-use Rattle.service.specs.declared.standing.Facilities.{Facilities}
-use Rattle.service.specs.declared.standing.Fates.{Fates}
-use Rattle.service.specs.declared.standing.Request.{Request}
-use Rattle.service.specs.declared.standing.Requests.{Requests}
+use Rattle.standing.specs.declared.Facilities.{Facilities}
+use Rattle.standing.specs.declared.Fates.{Fates}
+use Rattle.standing.specs.declared.Request.{Request}
+use Rattle.standing.specs.declared.Requests.{Requests}
 use Rattle.rules.specs.declared.answer.Answer.{Answer}
 use Rattle.rules.specs.declared.message.Kind.{Kind}
 use Rattle.rules.specs.declared.message.Message.{Message}
@@ -27,7 +27,7 @@ use Rattle.call.specs.declared.Event.{Event}
 use Rattle.call.specs.declared.reply.Reply.{Reply}
 use Rattle.meter.specs.Meter.{underThreeOf, passageOf}
 use Rattle.service.specs.Element.{seenOf, goesOutOf}
-use Rattle.service.specs.Standing.{remainsOf, firstStandingOf, standingsOf, lacksOf, failedOf}
+use Rattle.standing.specs.Standing.{remainsOf, firstStandingOf, standingsOf, lacksOf, failedOf}
 use Rattle.rules.specs.Message.{sayingOf, bareOf, congestionOf, informsOf, onlyIfOf}
 use Rattle.rules.specs.Serving.{passesOf, marksOf}
 use Rattle.call.specs.Answering.{goesOnOf, clearsOf, answeredCallOf, outcomeOf, answeredOf, alertingOf, connectOf}

@@ -11,17 +11,17 @@ use Rattle.service.specs.declared.element.Note.{Note}
 use Rattle.service.specs.declared.element.Seen.{Seen}
 use Rattle.service.specs.declared.rights.Rights.{Rights}
 use Rattle.service.specs.declared.rights.Service.{Service}
-use Rattle.service.specs.declared.standing.Answers.{Answers}
-use Rattle.service.specs.declared.standing.Fate.{Fate}
-use Rattle.service.specs.declared.standing.Fates.{Fates}
-use Rattle.service.specs.declared.standing.Given.{Given}
-use Rattle.service.specs.declared.standing.Request.{Request}
-use Rattle.service.specs.declared.standing.Requests.{Requests}
-use Rattle.service.specs.declared.standing.Said.{Said}
-use Rattle.service.specs.declared.standing.Standing.{Standing}
+use Rattle.standing.specs.declared.Answers.{Answers}
+use Rattle.standing.specs.declared.Fate.{Fate}
+use Rattle.standing.specs.declared.Fates.{Fates}
+use Rattle.standing.specs.declared.Given.{Given}
+use Rattle.standing.specs.declared.Request.{Request}
+use Rattle.standing.specs.declared.Requests.{Requests}
+use Rattle.standing.specs.declared.Said.{Said}
+use Rattle.standing.specs.declared.Standing.{Standing}
 use Rattle.rules.specs.declared.answer.Answer.{Answer}
-use Rattle.rules.specs.declared.asking.Asking.{Asking}
-use Rattle.rules.specs.declared.asking.What.{What}
+use Rattle.asking.specs.declared.Asking.{Asking}
+use Rattle.asking.specs.declared.What.{What}
 use Rattle.rules.specs.declared.message.Kind.{Kind}
 use Rattle.rules.specs.declared.message.Level.{Level}
 use Rattle.rules.specs.declared.message.Sent.{Sent}
@@ -34,9 +34,9 @@ use Rattle.call.specs.declared.reply.Reply.{Reply}
 use Rattle.meter.specs.Meter.{tickedOf, afterOf}
 use Rattle.service.specs.Element.{seenOf, wholeOf, goesOutOf}
 use Rattle.service.specs.Rights.{hasOf, rightsFitOf, referenceFitsOf}
-use Rattle.service.specs.Standing.{inForceOf, askedStandingOf, impliedOf, firstStandingOf, standingsOf, lackingOf, lacksOf, decidedOf, settledOf, settlesOf, failureOf, failedOf}
+use Rattle.standing.specs.Standing.{inForceOf, askedStandingOf, impliedOf, firstStandingOf, standingsOf, lackingOf, lacksOf, decidedOf, settledOf, settlesOf, failureOf, failedOf}
 use Rattle.rules.specs.Answer.{takenOf}
-use Rattle.rules.specs.Asking.{nobodyAsks, asksOf, mayAskOf, toRequestOf, toAnswerOf, facilityAnswerOf, facilityThreeOf}
+use Rattle.asking.specs.Asking.{nobodyAsks, asksOf, mayAskOf, toRequestOf, toAnswerOf, facilityAnswerOf, facilityThreeOf}
 use Rattle.rules.specs.Message.{sayingOf, bareOf, congestionOf, informsOf, onlyIfOf}
 use Rattle.rules.specs.Phase.{freshOf, requestedOf, connectableOf, talkingOf, activeOf, upOf, liveOf}
 use Rattle.rules.specs.Serving.{lateOf, servesTwoOf, servesThreeOf, passesOf}

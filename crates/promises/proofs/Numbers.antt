@@ -16,15 +16,15 @@ use Rattle.service.specs.declared.rights.Rights.{Rights}
 use Rattle.service.specs.declared.rights.Service.{Service}
 use Rattle.service.specs.declared.element.Seen.{Seen}
 use Rattle.rules.specs.declared.answer.Answer.{Answer}
-use Rattle.rules.specs.declared.asking.What.{What}
+use Rattle.asking.specs.declared.What.{What}
 use Rattle.rules.specs.declared.side.Side.{Side}
 use Rattle.call.specs.declared.Call.{Call}
 use Rattle.call.specs.declared.Event.{Event}
 use Rattle.call.specs.declared.reply.Reply.{Reply}
 use Rattle.meter.specs.Meter.{underThreeOf, passageOf}
-use Rattle.service.specs.Standing.{inForceOf}
+use Rattle.standing.specs.Standing.{inForceOf}
 use Rattle.rules.specs.Answer.{numberOf}
-use Rattle.rules.specs.Asking.{asksOf, mayAskOf, toRequestOf, toAnswerOf}
+use Rattle.asking.specs.Asking.{asksOf, mayAskOf, toRequestOf, toAnswerOf}
 use Rattle.rules.specs.Serving.{passageAnswerOf}
 use Rattle.rules.specs.Side.{peerOf}
 use Rattle.call.specs.Answering.{alertingOf, connectOf}

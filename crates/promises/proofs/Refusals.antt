@@ -11,9 +11,9 @@ use Rattle.meter.specs.declared.Passage.{Passage}
 use Rattle.service.specs.declared.cause.Cause.{Cause}
 use Rattle.service.specs.declared.element.Note.{Note}
 use Rattle.service.specs.declared.element.Seen.{Seen}
-use Rattle.service.specs.declared.standing.Fates.{Fates}
+use Rattle.standing.specs.declared.Fates.{Fates}
 use Rattle.rules.specs.declared.answer.Answer.{Answer}
-use Rattle.rules.specs.declared.asking.What.{What}
+use Rattle.asking.specs.declared.What.{What}
 use Rattle.rules.specs.declared.message.Kind.{Kind}
 use Rattle.rules.specs.declared.phase.Phase.{Phase}
 use Rattle.rules.specs.declared.side.Side.{Side}
@@ -22,9 +22,9 @@ use Rattle.call.specs.declared.Event.{Event}
 use Rattle.call.specs.declared.reply.Reply.{Reply}
 use Rattle.meter.specs.Meter.{markedOf, underThreeOf, passageOf, afterOf}
 use Rattle.service.specs.Element.{wholeOf}
-use Rattle.service.specs.Standing.{failedOf, silence}
+use Rattle.standing.specs.Standing.{failedOf, silence}
 use Rattle.rules.specs.Answer.{numberOf, takenOf}
-use Rattle.rules.specs.Asking.{toRequestOf, toAnswerOf, notGrantedOf}
+use Rattle.asking.specs.Asking.{toRequestOf, toAnswerOf, notGrantedOf}
 use Rattle.rules.specs.Message.{sayingOf, congestionOf, onlyIfOf}
 use Rattle.rules.specs.Serving.{passageAnswerOf, passesOf, marksOf}
 use Rattle.call.specs.Answering.{goesOnOf, clearsOf, outcomeOf, answeredOf, alertingOf, connectOf}

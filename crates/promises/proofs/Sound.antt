@@ -12,11 +12,11 @@ use Rattle.meter.specs.declared.Meter.{Meter}
 use Rattle.service.specs.declared.cause.Cause.{Cause}
 use Rattle.service.specs.declared.element.Seen.{Seen}
 use Rattle.service.specs.declared.rights.Rights.{Rights}
-use Rattle.service.specs.declared.standing.Fate.{Fate}
-use Rattle.service.specs.declared.standing.Fates.{Fates}
-use Rattle.service.specs.declared.standing.Requests.{Requests}
+use Rattle.standing.specs.declared.Fate.{Fate}
+use Rattle.standing.specs.declared.Fates.{Fates}
+use Rattle.standing.specs.declared.Requests.{Requests}
 use Rattle.rules.specs.declared.answer.Answer.{Answer}
-use Rattle.rules.specs.declared.asking.What.{What}
+use Rattle.asking.specs.declared.What.{What}
 use Rattle.rules.specs.declared.message.Kind.{Kind}
 use Rattle.rules.specs.declared.phase.Phase.{Phase}
 use Rattle.rules.specs.declared.side.Side.{Side}
@@ -26,7 +26,7 @@ use Rattle.call.specs.declared.Meters.{Meters}
 use Rattle.call.specs.declared.reply.Reply.{Reply}
 use Rattle.meter.specs.Meter.{emptyOf, grantedOf, refilledOf, tickedOf, countedOf, spentOf, markedOf, underThreeOf, passageOf, afterOf}
 use Rattle.service.specs.Element.{wholeOf}
-use Rattle.service.specs.Standing.{failedOf}
+use Rattle.standing.specs.Standing.{failedOf}
 use Rattle.rules.specs.Answer.{takenOf}
 use Rattle.call.specs.Answering.{grantsOf, inForceAfterOf, answeredCallOf, goesOnOf, clearsOf, outcomeOf, answeredOf, alertingOf, connectOf}
 use Rattle.call.specs.Disconnect.{closedCallOf, passedOnOf, disconnectOf, endsOf, releaseCompleteOf}

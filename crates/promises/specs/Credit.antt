@@ -9,18 +9,18 @@ use lib.ListN.{length}
 use lib.Dec.{ltb, leb}
 use Rattle.service.specs.declared.rights.Rights.{Rights}
 use Rattle.service.specs.declared.rights.Service.{Service}
-use Rattle.service.specs.declared.standing.Answers.{Answers}
-use Rattle.service.specs.declared.standing.Given.{Given}
-use Rattle.service.specs.declared.standing.Request.{Request}
-use Rattle.service.specs.declared.standing.Requests.{Requests}
+use Rattle.standing.specs.declared.Answers.{Answers}
+use Rattle.standing.specs.declared.Given.{Given}
+use Rattle.standing.specs.declared.Request.{Request}
+use Rattle.standing.specs.declared.Requests.{Requests}
 use Rattle.service.specs.Element.{wellFormedOf}
 use Rattle.service.specs.Rights.{hasOf, rightsFitOf, referenceFitsOf}
-use Rattle.rules.specs.declared.asking.Asking.{Asking}
-use Rattle.rules.specs.declared.asking.What.{What}
+use Rattle.asking.specs.declared.Asking.{Asking}
+use Rattle.asking.specs.declared.What.{What}
 use Rattle.rules.specs.declared.phase.Phase.{Phase}
 use Rattle.rules.specs.declared.side.Side.{Side}
 use Rattle.rules.specs.Answer.{numberOf}
-use Rattle.rules.specs.Asking.{nobodyAsks, asksOf, withAskOf}
+use Rattle.asking.specs.Asking.{nobodyAsks, asksOf, withAskOf}
 use Rattle.rules.specs.Phase.{freshOf, requestedOf, connectableOf, talkingOf, activeOf, upOf, liveOf}
 use Rattle.call.specs.declared.Call.{Call}
 use Rattle.call.specs.declared.Event.{Event}

@@ -7,12 +7,12 @@ use lib.ListN.{length}
 use Rattle.order.specs.First.{Rows, end, row, First, Exactly}
 use Rattle.service.specs.declared.rights.Rights.{Rights}
 use Rattle.service.specs.declared.rights.Service.{Service}
-use Rattle.service.specs.declared.standing.Answers.{Answers}
-use Rattle.service.specs.declared.standing.Given.{Given}
-use Rattle.service.specs.declared.standing.Request.{Request}
-use Rattle.service.specs.declared.standing.Requests.{Requests}
-use Rattle.service.specs.declared.standing.Standing.{Standing}
-use Rattle.service.specs.declared.standing.Standings.{Standings}
+use Rattle.standing.specs.declared.Answers.{Answers}
+use Rattle.standing.specs.declared.Given.{Given}
+use Rattle.standing.specs.declared.Request.{Request}
+use Rattle.standing.specs.declared.Requests.{Requests}
+use Rattle.standing.specs.declared.Standing.{Standing}
+use Rattle.standing.specs.declared.Standings.{Standings}
 use Rattle.service.specs.Element.{noteNumberOf}
 use Rattle.rules.specs.declared.phase.Phase.{Phase}
 use Rattle.rules.specs.declared.side.Side.{Side}

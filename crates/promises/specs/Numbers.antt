@@ -9,8 +9,8 @@ use Rattle.order.specs.First.{Rows, end, row, Exactly}
 use Rattle.meter.specs.declared.Meter.{Meter}
 use Rattle.service.specs.declared.rights.Rights.{Rights}
 use Rattle.service.specs.declared.rights.Service.{Service}
-use Rattle.service.specs.declared.standing.Standing.{Standing}
-use Rattle.rules.specs.declared.asking.What.{What}
+use Rattle.standing.specs.declared.Standing.{Standing}
+use Rattle.asking.specs.declared.What.{What}
 use Rattle.rules.specs.declared.phase.Phase.{Phase}
 use Rattle.rules.specs.declared.side.Side.{Side}
 use Rattle.rules.specs.Answer.{numberOf}

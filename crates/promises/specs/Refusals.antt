@@ -6,8 +6,8 @@ use mathlib.Core.Bool.{true, false}
 use mathlib.Core.Path.{_≡_}
 use Rattle.meter.specs.declared.Meter.{Meter}
 use Rattle.service.specs.declared.cause.Cause.{Cause}
-use Rattle.service.specs.declared.standing.Facilities.{Facilities}
-use Rattle.service.specs.declared.standing.Said.{Said}
+use Rattle.standing.specs.declared.Facilities.{Facilities}
+use Rattle.standing.specs.declared.Said.{Said}
 use Rattle.rules.specs.declared.message.Kind.{Kind}
 use Rattle.rules.specs.declared.message.Level.{Level}
 use Rattle.rules.specs.declared.message.Sent.{Sent}

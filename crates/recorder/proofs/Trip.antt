@@ -10,10 +10,10 @@ use lib.ListN.{length, getD, take, drop, replicate, length-append, length-replic
 use lib.Seq.{getD-append-add, take-append-seam, drop-append-add}
 use lib.Dec.{ltb, leb, eqb}
 use Rattle.call.specs.declared.Event.{Event}
-use Rattle.rules.specs.declared.asking.What.{What}
+use Rattle.asking.specs.declared.What.{What}
 use Rattle.rules.specs.declared.side.Side.{Side}
-use Rattle.service.specs.declared.standing.Given.{Given}
-use Rattle.service.specs.declared.standing.Request.{Request}
+use Rattle.standing.specs.declared.Given.{Given}
+use Rattle.standing.specs.declared.Request.{Request}
 use Rattle.body.specs.declared.kind.Kind.{Kind}
 use Rattle.body.specs.declared.kind.Named.{Named}
 use Rattle.trace.specs.declared.reading.Entry.{Entry}

@@ -7,18 +7,18 @@ ghost use Rattle.call.specs.declared.Event.{Event};
 ghost use Rattle.room.specs.Room.{Written};
 ghost use Rattle.room.specs.Putting.{Put};
 ghost use Rattle.recorder.specs.Writing.{flagOctet, sideOctet, requestOctet, givenOctet, whatOctet, fieldOctets, headOctets, headSize, recordSize, sidedOctets, answersOctets, fieldedOf, tailOctets, recordOctets, elementFitsOf, eventFitsOf, tailFitsOf, recordFitsOf};
+use asking::What;
 use call::Event;
 use room::Bar;
 use room::Wrote;
 use room::end_of;
 use room::write_octets;
-use rules::asking::What;
 use rules::side::Side;
 use service::rights::Rights;
-use service::standing::Answers;
-use service::standing::Given;
-use service::standing::Request;
-use service::standing::Requests;
+use standing::Answers;
+use standing::Given;
+use standing::Request;
+use standing::Requests;
 
 fn flag_octet(b: bool) -> u8
     ensures { λ r. ⌜ r ≡ flagOctet b ⌝ }

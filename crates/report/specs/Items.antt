@@ -3,7 +3,7 @@ use Prim.Native.Nat.{ℕ}
 use mathlib.Core.List.{List, [], _∷_, _++_}
 use mathlib.Core.Bool.{Bool, true, false}
 use Rattle.service.specs.declared.cause.Cause.{Cause}
-use Rattle.service.specs.declared.standing.Said.{Said}
+use Rattle.standing.specs.declared.Said.{Said}
 use Rattle.rules.specs.declared.message.Level.{Level}
 use Rattle.rules.specs.declared.message.Message.{Message}
 use Rattle.rules.specs.declared.message.Sent.{Sent}

@@ -21,7 +21,7 @@ use rules::message::kind_number;
 use service::cause::Cause;
 use service::element::Note;
 use service::element::note_number;
-use service::standing::Said;
+use standing::Said;
 use text::decimal::write_decimal;
 use text::hex::write_hex;
 

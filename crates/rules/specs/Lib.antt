@@ -3,4 +3,3 @@ pub mod Message
 pub mod Side
 pub mod Answer
 pub mod Serving
-pub mod Asking

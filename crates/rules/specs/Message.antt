@@ -2,11 +2,11 @@
 use Prim.Native.Nat.{ℕ}
 use mathlib.Core.Bool.{Bool, true, false, cond}
 use Rattle.service.specs.declared.cause.Cause.{Cause}
-use Rattle.service.specs.declared.standing.Facilities.{Facilities}
+use Rattle.standing.specs.declared.Facilities.{Facilities}
 use Rattle.rules.specs.declared.message.Kind.{Kind}
 use Rattle.rules.specs.declared.message.Level.{Level}
 use Rattle.rules.specs.declared.message.Sent.{Sent}
-use Rattle.service.specs.Standing.{silence}
+use Rattle.standing.specs.Standing.{silence}
 use Rattle.service.specs.Cause.{discarded}
 
 -- "Nine types, hexadecimal: ALERTING 01, CALL PROCEEDING 02, SETUP 05, CONNECT 07, USER INFORMATION 20, DISCONNECT 45, RELEASE COMPLETE 5A,

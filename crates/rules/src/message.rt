@@ -3,8 +3,8 @@ ghost use mathlib.Core.Path.{_≡_};
 ghost use Rattle.rules.specs.Message.{kindNumberOf, sayingOf, bareOf, congestionOf, informsOf, onlyIfOf};
 use service::cause::Cause;
 use service::cause::DISCARDED;
-use service::standing::Facilities;
-use service::standing::say_nothing;
+use standing::Facilities;
+use standing::say_nothing;
 
 pub enum Kind {
     Alerting,

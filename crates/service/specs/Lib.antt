@@ -1,4 +1,3 @@
 pub mod Cause
 pub mod Element
 pub mod Rights
-pub mod Standing

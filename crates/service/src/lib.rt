@@ -2,4 +2,3 @@
 pub mod cause;
 pub mod element;
 pub mod rights;
-pub mod standing;

@@ -1,4 +1,2 @@
-pub mod Look
-pub mod Choice
 pub mod Settle
 pub mod Plan

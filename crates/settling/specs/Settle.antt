@@ -10,10 +10,10 @@ use Rattle.call.specs.declared.Event.{Event}
 use Rattle.call.specs.declared.reply.Reply.{Reply}
 use Rattle.call.specs.Sound.{freshCall}
 use Rattle.call.specs.Step.{stepOf}
-use Rattle.settling.specs.declared.choice.Verdict.{Verdict}
+use Rattle.choosing.specs.declared.choice.Verdict.{Verdict}
 use Rattle.settling.specs.declared.settle.Outcome.{Outcome}
 use Rattle.settling.specs.declared.settle.Settled.{Settled}
-use Rattle.settling.specs.Choice.{opensOf}
+use Rattle.choosing.specs.Choice.{opensOf}
 
 -- "SETUP fills the whole record, used for one call": it starts from a fresh one
 unfoldable pub subjectOf : Call → Event → Call

@@ -2,12 +2,12 @@
 ghost use mathlib.Core.Path.{_≡_};
 ghost use Rattle.settling.specs.Plan.{planOf, rowOf, recordOf};
 ghost use Rattle.settling.specs.declared.plan.Looked.{Looked};
-use crate::choice::Verdict;
 use crate::settle::Outcome;
 use crate::settle::refusal;
 use crate::settle::settles;
 use call::Call;
 use call::Event;
+use choosing::choice::Verdict;
 
 // What the table shows of an event: the place that it goes to and the record there, or the number that the table gives.
 pub enum Looked {

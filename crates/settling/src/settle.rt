@@ -1,11 +1,11 @@
 // What an event makes of the record that it goes to, by value.
 ghost use mathlib.Core.Path.{_≡_};
 ghost use Rattle.settling.specs.Settle.{subjectOf, changesOf, keptOf, outcomeOf, refusalOf, settledOf};
-use crate::choice::Verdict;
-use crate::choice::opens;
 use call::Call;
 use call::Event;
 use call::reply::Reply;
+use choosing::choice::Verdict;
+use choosing::choice::opens;
 use rules::answer::Answer;
 use rules::message::Sent;
 use service::element::Note;

@@ -6,8 +6,8 @@ use lib.ListN.{length, getD, take, drop}
 use lib.Dec.{ltb, leb, eqb}
 use Rattle.call.specs.declared.Event.{Event}
 use Rattle.service.specs.declared.rights.Rights.{Rights}
-use Rattle.service.specs.declared.standing.Answers.{Answers}
-use Rattle.service.specs.declared.standing.Requests.{Requests}
+use Rattle.standing.specs.declared.Answers.{Answers}
+use Rattle.standing.specs.declared.Requests.{Requests}
 use Rattle.body.specs.declared.kind.Kind.{Kind}
 use Rattle.body.specs.declared.kind.Named.{Named}
 use Rattle.trace.specs.declared.reading.Fault.{Fault}

@@ -18,8 +18,8 @@ use body::kind::kind_in;
 use body::kind::size;
 use call::Event;
 use service::rights::Rights;
-use service::standing::Answers;
-use service::standing::Requests;
+use standing::Answers;
+use standing::Requests;
 
 // Why a trace goes on no further: an unknown kind, a record that is cut short, a field out of range.
 pub enum Fault {

@@ -7,7 +7,7 @@ use native.Mathlib.Omega.{arith}
 use borrow.Author.Tests.{le-ltb, eq-eqb, ne-eqb}
 use lib.ListN.{length, getD, length-append}
 use lib.Dec.{eqb}
-use Rattle.component.specs.declared.cause.Cause.{Cause}
+use Rattle.cause.specs.declared.Cause.{Cause}
 use Rattle.component.specs.declared.facility.Component.{Component}
 use Rattle.component.specs.Facility.{filled, facilityOctets}
 use Rattle.fields.specs.declared.kind.Kind.{Kind}

@@ -4,8 +4,8 @@ use mathlib.Core.List.{List, [], _∷_, _++_}
 use mathlib.Core.Bool.{Bool, true, false, cond, _&&_}
 use lib.ListN.{length, getD}
 use lib.Dec.{ltb, eqb}
-use Rattle.component.specs.declared.cause.Cause.{Cause}
-use Rattle.component.specs.Cause.{causeFits, causeOctets}
+use Rattle.cause.specs.declared.Cause.{Cause}
+use Rattle.cause.specs.Cause.{causeFits, causeOctets}
 use Rattle.component.specs.Facility.{componentFits, facilityOctets}
 use Rattle.fields.specs.declared.kind.Kind.{Kind}
 use Rattle.fields.specs.declared.Width.{Width}

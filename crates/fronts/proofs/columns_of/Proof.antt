@@ -4,7 +4,7 @@ use Rattle.fronts.proofs.columns_of.Statement.{statement}
 use Rattle.fronts.proofs.columns_of.Tie as tie
 use Rattle.fronts.proofs.columns_of.Reads as reads
 use Rattle.fronts.proofs.columns_of.Lts as lts
-use Rattle.settling.proofs.choice.verdict_number.Reads as verdict-number-reads
+use Rattle.choosing.proofs.choice.verdict_number.Reads as verdict-number-reads
 
 verdict-number-requires : tie.Need-verdict-number-requires
 verdict-number-requires c κs = search needs

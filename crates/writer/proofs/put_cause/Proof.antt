@@ -4,7 +4,7 @@ use Rattle.writer.proofs.put_cause.Statement.{statement}
 use Rattle.writer.proofs.put_cause.Tie as tie
 use Rattle.writer.proofs.put_cause.Reads as reads
 use Rattle.writer.proofs.put_cause.Lts as lts
-use Rattle.component.proofs.cause.write_cause.Reads as write-cause-reads
+use Rattle.cause.proofs.write_cause.Reads as write-cause-reads
 use Rattle.room.proofs.end_of.Reads as end-of-reads
 
 enum-told : tie.Need-enum-told

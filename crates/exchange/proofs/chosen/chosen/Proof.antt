@@ -1,4 +1,4 @@
--- `settling::choice::chosen` meets its contract: a walk of its MIR, by hand. What the slice reference owns is copied for each of `sound`, `find` and `place`, and `choose` is called on what they say.
+-- `choosing::choice::chosen` meets its contract: a walk of its MIR, by hand. What the slice reference owns is copied for each of `sound`, `find` and `place`, and `choose` is called on what they say.
 -- Assumes nothing.
 use mathlib.Core.Path.{_≡_, refl, _∙_, ap}
 use Prim.Native.Nat.{ℕ, _<_, _^_}
@@ -42,18 +42,18 @@ use Rattle.call.proofs.Event as E
 use Rattle.call.proofs.Event.Laws as E′
 use Rattle.exchange.specs.Table.{tableSound, findFrom, placeFrom}
 use Rattle.exchange.specs.Chosen.{chosenOf}
-use Rattle.settling.specs.Choice.{referenceOf, chooseOf}
-use Rattle.settling.specs.declared.look.Found.{Found}
-use Rattle.settling.specs.declared.choice.Choice.{Choice}
+use Rattle.choosing.specs.Choice.{referenceOf, chooseOf}
+use Rattle.choosing.specs.declared.look.Found.{Found}
+use Rattle.choosing.specs.declared.choice.Choice.{Choice}
 use Rattle.meter.proofs.Plainly.{pre-plain, calls-told, calls-plain, leaves}
-use Rattle.settling.proofs.look.Found as U
-use Rattle.settling.proofs.look.Found.Laws as U′
-use Rattle.settling.proofs.choice.Choice as R
-use Rattle.settling.proofs.choice.Choice.Laws as R′
-use Rattle.settling.proofs.choice.reference_of as g
-use Rattle.settling.proofs.choice.reference_of.Symbol as g-def
-use Rattle.settling.proofs.choice.reference_of.Symbol.{name as #g}
-use Rattle.settling.proofs.choice.reference_of.Met as g-thm
+use Rattle.choosing.proofs.look.Found as U
+use Rattle.choosing.proofs.look.Found.Laws as U′
+use Rattle.choosing.proofs.choice.Choice as R
+use Rattle.choosing.proofs.choice.Choice.Laws as R′
+use Rattle.choosing.proofs.choice.reference_of as g
+use Rattle.choosing.proofs.choice.reference_of.Symbol as g-def
+use Rattle.choosing.proofs.choice.reference_of.Symbol.{name as #g}
+use Rattle.choosing.proofs.choice.reference_of.Met as g-thm
 use Rattle.exchange.proofs.table.sound as s
 use Rattle.exchange.proofs.table.sound.Symbol as s-def
 use Rattle.exchange.proofs.table.sound.Symbol.{name as #s}
@@ -66,10 +66,10 @@ use Rattle.exchange.proofs.table.place as p
 use Rattle.exchange.proofs.table.place.Symbol as p-def
 use Rattle.exchange.proofs.table.place.Symbol.{name as #p}
 use Rattle.exchange.proofs.table.place.Met as p-thm
-use Rattle.settling.proofs.choice.choose as u
-use Rattle.settling.proofs.choice.choose.Symbol as u-def
-use Rattle.settling.proofs.choice.choose.Symbol.{name as #u}
-use Rattle.settling.proofs.choice.choose.Met as u-thm
+use Rattle.choosing.proofs.choice.choose as u
+use Rattle.choosing.proofs.choice.choose.Symbol as u-def
+use Rattle.choosing.proofs.choice.choose.Symbol.{name as #u}
+use Rattle.choosing.proofs.choice.choose.Met as u-thm
 use Rattle.exchange.proofs.chosen.chosen.Key.{name as #f}
 use Rattle.exchange.proofs.chosen.chosen as f
 use Rattle.exchange.proofs.chosen.chosen.Statement as stated
@@ -205,8 +205,8 @@ chosen-spec 𝓤 H 𝓜 𝓖 𝓡 =
     entered 𝓤 H (tripleOf 𝓤 H (𝓖 .A) f.signature (f.spec 𝓤 H (𝓖 .A) (𝓜 .mem) (𝓡 .run)))
     (tables 𝓤 H 𝓜 𝓡 code.env .C) (tables 𝓤 H 𝓜 𝓡 code.env .Λ) #f code.function (code.unfolded 𝓤 H 𝓜 𝓡)
     (meets 𝓤 H (𝓖 .A) (givenOf 𝓤 H 𝓜 𝓖) (𝓜 .mem) (𝓡 .run) (tablesOf 𝓤 H 𝓜 (tables 𝓤 H 𝓜 𝓡 code.env))
-    (cited 𝓤 H (G 𝓤 H (𝓖 .A) (𝓜 .mem) (𝓡 .run)) 𝓜 𝓡 code.env #g g-def.routine code.calls-settling·choice·reference-of (g-thm.met 𝓤 H 𝓜 𝓖 𝓡))
+    (cited 𝓤 H (G 𝓤 H (𝓖 .A) (𝓜 .mem) (𝓡 .run)) 𝓜 𝓡 code.env #g g-def.routine code.calls-choosing·choice·reference-of (g-thm.met 𝓤 H 𝓜 𝓖 𝓡))
     (cited 𝓤 H (S 𝓤 H (𝓖 .A) (𝓜 .mem) (𝓡 .run)) 𝓜 𝓡 code.env #s s-def.routine code.calls-exchange·table·sound (s-thm.met 𝓤 H 𝓜 𝓖 𝓡))
     (cited 𝓤 H (F 𝓤 H (𝓖 .A) (𝓜 .mem) (𝓡 .run)) 𝓜 𝓡 code.env #h h-def.routine code.calls-exchange·table·find (h-thm.met 𝓤 H 𝓜 𝓖 𝓡))
     (cited 𝓤 H (P 𝓤 H (𝓖 .A) (𝓜 .mem) (𝓡 .run)) 𝓜 𝓡 code.env #p p-def.routine code.calls-exchange·table·place (p-thm.met 𝓤 H 𝓜 𝓖 𝓡))
-    (cited 𝓤 H (Ch 𝓤 H (𝓖 .A) (𝓜 .mem) (𝓡 .run)) 𝓜 𝓡 code.env #u u-def.routine code.calls-settling·choice·choose (u-thm.met 𝓤 H 𝓜 𝓖 𝓡)))
+    (cited 𝓤 H (Ch 𝓤 H (𝓖 .A) (𝓜 .mem) (𝓡 .run)) 𝓜 𝓡 code.env #u u-def.routine code.calls-choosing·choice·choose (u-thm.met 𝓤 H 𝓜 𝓖 𝓡)))

@@ -51,19 +51,19 @@ use Rattle.call.proofs.Event as E
 use Rattle.call.proofs.Event.Laws as E′
 use Rattle.exchange.specs.Chosen.{chosenOf}
 use Rattle.exchange.specs.Halves.{lookAt, lookOf}
-use Rattle.settling.specs.declared.choice.Choice.{Choice}
-use Rattle.settling.specs.declared.choice.Choice.the-variants.{At, Refused}
-use Rattle.settling.specs.declared.choice.Verdict.{Verdict}
+use Rattle.choosing.specs.declared.choice.Choice.{Choice}
+use Rattle.choosing.specs.declared.choice.Choice.the-variants.{At, Refused}
+use Rattle.choosing.specs.declared.choice.Verdict.{Verdict}
 use Rattle.settling.specs.declared.plan.Looked.{Looked}
 use Rattle.exchange.proofs.Arms.{assigns-on}
 use Rattle.meter.proofs.Plainly.{pre-plain, calls-told, calls-plain, leaves}
 use Rattle.exchange.proofs.Within.{chosen-within}
 use Rattle.settling.proofs.plan.Looked as U
 use Rattle.settling.proofs.plan.Looked.Laws as U′
-use Rattle.settling.proofs.choice.Choice as R
-use Rattle.settling.proofs.choice.Choice.Laws as R′
-use Rattle.settling.proofs.choice.Verdict as N
-use Rattle.settling.proofs.choice.Verdict.Laws as N′
+use Rattle.choosing.proofs.choice.Choice as R
+use Rattle.choosing.proofs.choice.Choice.Laws as R′
+use Rattle.choosing.proofs.choice.Verdict as N
+use Rattle.choosing.proofs.choice.Verdict.Laws as N′
 use Rattle.exchange.proofs.chosen.chosen as g
 use Rattle.exchange.proofs.chosen.chosen.Symbol as g-def
 use Rattle.exchange.proofs.chosen.chosen.Symbol.{name as #g}

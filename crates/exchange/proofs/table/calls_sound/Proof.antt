@@ -51,30 +51,30 @@ use Rattle.call.specs.Sound.{freshCall, soundOf}
 use Rattle.rules.specs.Phase.{liveOf}
 use Rattle.call.proofs.Call as T
 use Rattle.call.proofs.Call.Laws as T′
-use Rattle.settling.specs.Look.{laterOf, faultOf}
+use Rattle.choosing.specs.Look.{laterOf, faultOf}
 use Rattle.exchange.specs.Table.{findFrom, heldIn, callsSound}
-use Rattle.settling.specs.declared.look.Found.{Found}
+use Rattle.choosing.specs.declared.look.Found.{Found}
 use Rattle.exchange.proofs.Arms.{skips-to}
 use Rattle.meter.proofs.Plainly.{pre-plain, calls-told, calls-plain, leaves}
 use Rattle.exchange.proofs.Searched.{alone-at, sounds, fault-says, stops, goes-on}
-use Rattle.settling.proofs.look.Found as U
-use Rattle.settling.proofs.look.Found.Laws as U′
+use Rattle.choosing.proofs.look.Found as U
+use Rattle.choosing.proofs.look.Found.Laws as U′
 use Rattle.exchange.proofs.table.get as g
 use Rattle.exchange.proofs.table.get.Symbol as g-def
 use Rattle.exchange.proofs.table.get.Symbol.{name as #g}
 use Rattle.exchange.proofs.table.get.Met as g-thm
-use Rattle.settling.proofs.look.later as m
-use Rattle.settling.proofs.look.later.Symbol as m-def
-use Rattle.settling.proofs.look.later.Symbol.{name as #m}
-use Rattle.settling.proofs.look.later.Met as m-thm
+use Rattle.choosing.proofs.look.later as m
+use Rattle.choosing.proofs.look.later.Symbol as m-def
+use Rattle.choosing.proofs.look.later.Symbol.{name as #m}
+use Rattle.choosing.proofs.look.later.Met as m-thm
 use Rattle.exchange.proofs.table.find_from as s
 use Rattle.exchange.proofs.table.find_from.Symbol as s-def
 use Rattle.exchange.proofs.table.find_from.Symbol.{name as #s}
 use Rattle.exchange.proofs.table.find_from.Met as s-thm
-use Rattle.settling.proofs.look.at_fault as p
-use Rattle.settling.proofs.look.at_fault.Symbol as p-def
-use Rattle.settling.proofs.look.at_fault.Symbol.{name as #p}
-use Rattle.settling.proofs.look.at_fault.Met as p-thm
+use Rattle.choosing.proofs.look.at_fault as p
+use Rattle.choosing.proofs.look.at_fault.Symbol as p-def
+use Rattle.choosing.proofs.look.at_fault.Symbol.{name as #p}
+use Rattle.choosing.proofs.look.at_fault.Met as p-thm
 use Rattle.exchange.proofs.table.calls_sound.Key.{name as #f}
 use Rattle.exchange.proofs.table.calls_sound as f
 use Rattle.exchange.proofs.table.calls_sound.Statement as stated
@@ -298,6 +298,6 @@ calls-sound-spec 𝓤 H 𝓜 𝓖 𝓡 =
     (tables 𝓤 H 𝓜 𝓡 code.env .C) (tables 𝓤 H 𝓜 𝓡 code.env .Λ) #f code.function (code.unfolded 𝓤 H 𝓜 𝓡)
     (meets 𝓤 H (𝓖 .A) (givenOf 𝓤 H 𝓜 𝓖) (𝓜 .mem) (𝓡 .run) (tablesOf 𝓤 H 𝓜 (tables 𝓤 H 𝓜 𝓡 code.env))
     (cited 𝓤 H (G 𝓤 H (𝓖 .A) (𝓜 .mem) (𝓡 .run)) 𝓜 𝓡 code.env #g g-def.routine code.calls-exchange·table·get (g-thm.met 𝓤 H 𝓜 𝓖 𝓡))
-    (cited 𝓤 H (L 𝓤 H (𝓖 .A) (𝓜 .mem) (𝓡 .run)) 𝓜 𝓡 code.env #m m-def.routine code.calls-settling·look·later (m-thm.met 𝓤 H 𝓜 𝓖 𝓡))
+    (cited 𝓤 H (L 𝓤 H (𝓖 .A) (𝓜 .mem) (𝓡 .run)) 𝓜 𝓡 code.env #m m-def.routine code.calls-choosing·look·later (m-thm.met 𝓤 H 𝓜 𝓖 𝓡))
     (cited 𝓤 H (S 𝓤 H (𝓖 .A) (𝓜 .mem) (𝓡 .run)) 𝓜 𝓡 code.env #s s-def.routine code.calls-exchange·table·find-from (s-thm.met 𝓤 H 𝓜 𝓖 𝓡))
-    (cited 𝓤 H (P 𝓤 H (𝓖 .A) (𝓜 .mem) (𝓡 .run)) 𝓜 𝓡 code.env #p p-def.routine code.calls-settling·look·at-fault (p-thm.met 𝓤 H 𝓜 𝓖 𝓡)))
+    (cited 𝓤 H (P 𝓤 H (𝓖 .A) (𝓜 .mem) (𝓡 .run)) 𝓜 𝓡 code.env #p p-def.routine code.calls-choosing·look·at-fault (p-thm.met 𝓤 H 𝓜 𝓖 𝓡)))

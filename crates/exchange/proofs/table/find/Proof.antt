@@ -38,10 +38,10 @@ use denote.Exit.{yes}
 use Rattle.call.specs.declared.Call.{Call}
 use Rattle.call.proofs.Call as T
 use Rattle.exchange.specs.Table.{findFrom}
-use Rattle.settling.specs.declared.look.Found.{Found}
+use Rattle.choosing.specs.declared.look.Found.{Found}
 use Rattle.meter.proofs.Plainly.{calls-told, leaves}
-use Rattle.settling.proofs.look.Found as U
-use Rattle.settling.proofs.look.Found.Laws as U′
+use Rattle.choosing.proofs.look.Found as U
+use Rattle.choosing.proofs.look.Found.Laws as U′
 use Rattle.exchange.proofs.table.find_from as g
 use Rattle.exchange.proofs.table.find_from.Symbol as g-def
 use Rattle.exchange.proofs.table.find_from.Symbol.{name as #g}

@@ -3,7 +3,7 @@ use Rattle.fields.proofs.found.first_cause.Statement.{statement}
 use Rattle.fields.proofs.found.first_cause.Tie as tie
 use Rattle.fields.proofs.found.first_cause.Reads as reads
 use Rattle.fields.proofs.found.first_cause.Lts as lts
-use Rattle.component.proofs.cause.cause_in.Reads as cause-in-reads
+use Rattle.cause.proofs.cause_in.Reads as cause-in-reads
 
 enum-told : tie.Need-enum-told
 enum-told c = search needs

@@ -1,0 +1,79 @@
+-- Service 3 asked for while connected.
+use mathlib.Core.Bool.{Bool, true, false, cond, _&&_}
+use Rattle.service.specs.declared.rights.Rights.{Rights}
+use Rattle.service.specs.declared.rights.Service.{Service}
+use Rattle.standing.specs.declared.Said.{Said}
+use Rattle.standing.specs.declared.Standing.{Standing}
+use Rattle.rules.specs.declared.answer.Answer.{Answer}
+use Rattle.asking.specs.declared.Asking.{Asking}
+use Rattle.asking.specs.declared.What.{What}
+use Rattle.rules.specs.declared.side.Side.{Side}
+use Rattle.service.specs.Rights.{hasOf}
+use Rattle.rules.specs.Side.{peerOf}
+
+unfoldable pub nobodyAsks : Asking
+nobodyAsks = record { calling = false; called = false }
+
+-- "Each side has its own open request."
+abbrev pub asksOf : Asking → Side → Bool
+asksOf a Side.Calling = a .calling
+asksOf a Side.Called = a .called
+
+abbrev pub withAskOf : Asking → Side → Bool → Asking
+withAskOf a Side.Calling b = record { calling = b; called = a .called }
+withAskOf a Side.Called b = record { calling = a .calling; called = b }
+
+-- Number 16: "not in the rights, or by the called side without leave".
+abbrev pub mayAskOf : Rights → Side → Bool
+mayAskOf r Side.Calling = hasOf r Service.Three
+mayAskOf r Side.Called = hasOf r Service.Three && r .leave
+
+-- a preferred request: 16, then 15
+unfoldable pub toRequestOf : Bool → Bool → Answer
+toRequestOf may shut = cond may (cond shut Answer.NotOpen Answer.Taken) Answer.NotGranted
+
+-- an answer: 15
+unfoldable pub toAnswerOf : Bool → Answer
+toAnswerOf shut = cond shut Answer.NotOpen Answer.Taken
+
+-- Number 18: "service 3 asked as required while connected".
+abbrev pub facilityAnswerOf : What → Answer → Answer → Answer
+facilityAnswerOf What.Preferred request answer = request
+facilityAnswerOf What.Accept request answer = answer
+facilityAnswerOf What.Reject request answer = answer
+facilityAnswerOf What.Required request answer = Answer.AskedRequired
+
+-- what is passed to the other user
+abbrev pub facilitySaidOf : What → Said
+facilitySaidOf What.Preferred = Said.Preferred
+facilitySaidOf What.Accept = Said.Accepted
+facilitySaidOf What.Reject = Said.ByUser
+facilitySaidOf What.Required = Said.Required
+
+-- "Accept puts the service in force and closes both; reject closes the one."
+abbrev pub facilityAskingOf : Asking → Side → What → Asking
+facilityAskingOf a side What.Preferred = withAskOf a side true
+facilityAskingOf a side What.Accept = nobodyAsks
+facilityAskingOf a side What.Reject = withAskOf a (peerOf side) false
+facilityAskingOf a side What.Required = a
+
+-- how service 3 stands once the message is taken
+abbrev pub facilityThreeOf : Standing → What → Standing
+facilityThreeOf s What.Preferred = s
+facilityThreeOf s What.Accept = Standing.InForce
+facilityThreeOf s What.Reject = s
+facilityThreeOf s What.Required = s
+
+-- 16 and no other
+abbrev pub notGrantedOf : Answer → Bool
+notGrantedOf Answer.Taken = false
+notGrantedOf Answer.OutOfPhase = false
+notGrantedOf Answer.NotAnEvent = false
+notGrantedOf Answer.NoService = false
+notGrantedOf Answer.Spent = false
+notGrantedOf Answer.NotOpen = false
+notGrantedOf Answer.NotGranted = true
+notGrantedOf Answer.BadElement = false
+notGrantedOf Answer.AskedRequired = false
+notGrantedOf Answer.OutOfRange = false
+notGrantedOf Answer.Unsound = false

@@ -1,0 +1,136 @@
+// Which record an event goes to, or the number that the table gives.
+ghost use mathlib.Core.Path.{_≡_};
+ghost use Rattle.choosing.specs.Choice.{verdictNumber, wantedOf, referenceOf, opensOf, rangedOf, newPlaceOf, oldPlaceOf, chooseOf};
+use crate::look::Found;
+use call::Event;
+use rules::answer::Answer;
+use rules::answer::number;
+use service::rights::reference_fits;
+use service::rights::rights_fit;
+
+// Heard: an answer that a call gives too. The others only a table gives.
+pub enum Verdict {
+    Heard(Answer),
+    NoPlace,
+    Held,
+    NoCall,
+}
+
+pub enum Choice {
+    At(usize),
+    Refused(Verdict),
+}
+
+pub fn verdict_number(v: Verdict) -> u8
+    ensures { λ r. ⌜ r ≡ verdictNumber v ⌝ }
+{
+    match v {
+        Verdict::Heard(a) => number(a),
+        Verdict::NoPlace => 21,
+        Verdict::Held => 22,
+        Verdict::NoCall => 23,
+    }
+}
+
+// What an event wants of the table: SETUP a new place, under its own reference, with reference and rights in range or not; any
+// other event the place of a call that is there.
+pub enum Wanted {
+    New(u16, bool),
+    Old,
+}
+
+pub fn wants(event: Event) -> Wanted
+    ensures { λ r. ⌜ r ≡ wantedOf event ⌝ }
+{
+    match event {
+        Event::Setup {
+            reference,
+            rights,
+            requests,
+        } => Wanted::New(reference, reference_fits(reference) & rights_fit(rights)),
+        Event::Alerting { answers } => Wanted::Old,
+        Event::Connect { answers } => Wanted::Old,
+        Event::Information { side, more } => Wanted::Old,
+        Event::Facility { side, what } => Wanted::Old,
+        Event::Disconnect {
+            side,
+            cause,
+            answers,
+        } => Wanted::Old,
+        Event::ReleaseComplete { side } => Wanted::Old,
+        Event::Tick => Wanted::Old,
+        Event::CallProceeding => Wanted::Old,
+        Event::CongestionControl => Wanted::Old,
+    }
+}
+
+// The reference that an event is about: SETUP has its own.
+pub fn reference_of(reference: u16, event: Event) -> u16
+    ensures { λ r. ⌜ r ≡ referenceOf reference event ⌝ }
+{
+    match wants(event) {
+        Wanted::New(own, ranged) => own,
+        Wanted::Old => reference,
+    }
+}
+
+// SETUP opens a call.
+pub fn opens(event: Event) -> bool
+    ensures { λ r. ⌜ r ≡ opensOf event ⌝ }
+{
+    match wants(event) {
+        Wanted::New(own, ranged) => true,
+        Wanted::Old => false,
+    }
+}
+
+// Whether reference and rights of a SETUP are in range.
+pub fn ranged(event: Event) -> bool
+    ensures { λ r. ⌜ r ≡ rangedOf event ⌝ }
+{
+    match wants(event) {
+        Wanted::New(own, ranged) => ranged,
+        Wanted::Old => true,
+    }
+}
+
+// A SETUP in range: 22, 21, or the lowest free place.
+pub fn new_place(held: Found, free: Found) -> Choice
+    ensures { λ r. ⌜ r ≡ newPlaceOf held free ⌝ }
+{
+    match held {
+        Found::At(i) => Choice::Refused(Verdict::Held),
+        Found::Nothing => match free {
+            Found::At(i) => Choice::At(i),
+            Found::Nothing => Choice::Refused(Verdict::NoPlace),
+        },
+    }
+}
+
+// Any other event: 23, or the live call's place.
+pub fn old_place(held: Found) -> Choice
+    ensures { λ r. ⌜ r ≡ oldPlaceOf held ⌝ }
+{
+    match held {
+        Found::At(i) => Choice::At(i),
+        Found::Nothing => Choice::Refused(Verdict::NoCall),
+    }
+}
+
+pub fn choose(whole: bool, event: Event, held: Found, free: Found) -> Choice
+    ensures { λ r. ⌜ r ≡ chooseOf whole event held free ⌝ }
+{
+    if whole {
+        if opens(event) {
+            if ranged(event) {
+                new_place(held, free)
+            } else {
+                Choice::Refused(Verdict::Heard(Answer::OutOfRange))
+            }
+        } else {
+            old_place(held)
+        }
+    } else {
+        Choice::Refused(Verdict::Heard(Answer::Unsound))
+    }
+}
