@@ -1,11 +1,11 @@
 // A case's line: its name, what was found, and whether that is what the standard gives.
 use component::facility::Component;
 use component::facility::write_facility;
+use elements::Read;
 use fields::Message;
 use fields::Place;
 use libc::STDOUT_FILENO;
 use line::write_line;
-use message::reader::Read;
 use message::reader::part;
 use message::reader::read_message;
 use message::reader::user_user;

@@ -1,9 +1,9 @@
 -- The fields of a body.
 use Prim.Native.Nat.{ℕ, _+_, _-_}
 use mathlib.Core.List.{List, [], _∷_}
-use mathlib.Core.Bool.{Bool, true, false, cond, not, _&&_}
+use mathlib.Core.Bool.{Bool, true, false, cond, not}
 use lib.ListN.{length, getD, take, drop}
-use lib.Dec.{ltb, leb, eqb}
+use lib.Dec.{ltb, eqb}
 use Rattle.asking.specs.declared.What.{What}
 use Rattle.rules.specs.declared.side.Side.{Side}
 use Rattle.standing.specs.declared.Given.{Given}

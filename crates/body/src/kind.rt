@@ -1,4 +1,4 @@
-// The kinds of record, and how long the body of each is.
+// The kinds of record, and how long a record of each is.
 ghost use mathlib.Core.Path.{_≡_};
 ghost use Rattle.body.specs.Kind.{kindOf, sizeOf};
 

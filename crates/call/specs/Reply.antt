@@ -1,4 +1,4 @@
--- Numbers given back, the first of them that applies, and replies.
+-- The tests that come first, 25, 11 and 24, and replies.
 use mathlib.Core.Bool.{Bool, cond}
 use Rattle.service.specs.declared.element.Note.{Note}
 use Rattle.rules.specs.declared.answer.Answer.{Answer}

@@ -1,4 +1,4 @@
-// Replies: the answer and its number, and the tests that come first.
+// Replies, and the tests that come first.
 ghost use mathlib.Core.Path.{_≡_};
 ghost use Rattle.call.specs.Reply.{barOf, refusedOf, heardOf, replyOf};
 use crate::Call;

@@ -20,11 +20,12 @@ use Rattle.fields.specs.declared.Single.{Single}
 use Rattle.fields.specs.declared.Facilities.{Facilities}
 use Rattle.fields.specs.declared.Header.{Header}
 use Rattle.fields.specs.declared.Place.{Place}
-use Rattle.message.specs.declared.reader.Reading.{Reading}
-use Rattle.message.specs.declared.reader.Read.{Read}
+use Rattle.elements.specs.declared.Reading.{Reading}
+use Rattle.elements.specs.declared.Read.{Read}
 use Rattle.fields.specs.Kind.{kindOf}
-use Rattle.message.specs.Elements.{Element, Split, cut, whole, elements, counted}
-use Rattle.message.specs.Reading.{firstCause, andSays, components, firstThree, readingOf, takenOf, widthOf, referenceOf, typedOf, headedOf, readOf, placeIn}
+use Rattle.elements.specs.Elements.{Element, Split, cut, whole, elements, counted}
+use Rattle.elements.specs.Meaning.{firstCause, andSays, components, firstThree, readingOf, takenOf}
+use Rattle.message.specs.Reading.{widthOf, referenceOf, typedOf, headedOf, readOf, placeIn}
 use Rattle.octets.specs.Promises.{CauseIn, FacilitiesIn}
 use Rattle.octets.proofs.Promises.{element}
 use Rattle.text.specs.Decimal.{decimalOf}

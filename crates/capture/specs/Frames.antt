@@ -1,4 +1,4 @@
--- A capture: "messages end to end, each after its length in two octets, high octet first".
+-- A capture: messages end to end, each after its length in two octets, high octet first.
 use Prim.Native.Nat.{ℕ, zero, suc, _+_, _-_, _*_, min}
 use mathlib.Core.List.{List, [], _∷_, _++_}
 use mathlib.Core.Bool.{cond}
@@ -37,7 +37,7 @@ framesOf offset c = framesIn (length c) offset c
 abbrev pub lineAt : Frame → List ℕ
 lineAt f = lineOf (f .at) (f .octets)
 
--- "then a line a message"
+-- then a line a message
 unfoldable pub linesOf : List Frame → List ℕ
 linesOf [] = []
 linesOf (f ∷ fs) = lineAt f ++ linesOf fs
@@ -62,7 +62,7 @@ pub record Digested (c : List ℕ) (offset : ℕ) (l l' : List ℕ) (r : Done) :
   pub wrote : r .wrote ≡ length (linesOf (workedOff c offset l))
   pub buffer : l' ≡ placed 0 (linesOf (workedOff c offset l)) l
 
--- "First line exactly `at number type flag ref cause single facility element`"
+-- First line exactly `at number type flag ref cause single facility element`
 abbrev pub firstLine : List ℕ
 firstLine =
     97 ∷ 116 ∷ 32
@@ -75,10 +75,10 @@ firstLine =
     ∷ 102 ∷ 97 ∷ 99 ∷ 105 ∷ 108 ∷ 105 ∷ 116 ∷ 121 ∷ 32
     ∷ 101 ∷ 108 ∷ 101 ∷ 109 ∷ 101 ∷ 110 ∷ 116 ∷ 10 ∷ []
 
--- "A capture that ends inside a length or a message prints `cut` as its last line": so many octets are left
+-- A capture that ends inside a length or a message prints `cut` as its last line: so many octets are left
 unfoldable pub lastLine : ℕ → List ℕ
 lastLine left = cond (eqb left 0) [] (99 ∷ 117 ∷ 116 ∷ 10 ∷ [])
 
--- what is printed of a whole capture; "An empty capture prints the first line alone."
+-- what is printed of a whole capture; An empty capture prints the first line alone.
 unfoldable pub printedOf : List ℕ → List ℕ
 printedOf c = firstLine ++ linesOf (framesOf 0 c) ++ lastLine (length c - spanOf (framesOf 0 c))

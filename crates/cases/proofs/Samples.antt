@@ -18,10 +18,11 @@ use Rattle.call.specs.Step.{notAnEventOf}
 use Rattle.cause.specs.Cause.{causeOf}
 use Rattle.component.specs.Facility.{size, stand, spells, filled, serviceOf, wishOf, refusalOf, readAs, invokeOf, resultOf, errorOf, facilityOf as componentOf}
 use Rattle.room.specs.Room.{placed, wroteOf, leftOf}
-use Rattle.message.specs.Elements.{then, elements, counted}
+use Rattle.elements.specs.Elements.{then, elements, counted}
 use Rattle.fields.specs.Kind.{kindOf}
 use Rattle.fields.specs.Found.{singleOf}
-use Rattle.message.specs.Reading.{firstSingle, firstCause, firstPlace, components, readingOf, takenOf, headedOf, readOf, userUserOf}
+use Rattle.elements.specs.Meaning.{firstSingle, firstCause, firstPlace, components, readingOf, takenOf}
+use Rattle.message.specs.Reading.{headedOf, readOf, userUserOf}
 use Rattle.writer.specs.Writing.{frontOctets, messageOctets, userFits, messageFits}
 use Rattle.cases.specs.Samples.{Samples}
 

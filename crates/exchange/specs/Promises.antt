@@ -109,7 +109,7 @@ pub record OneChanged (t s : List Call) : Type 0 where
 abbrev pub OnePlace : Type 0
 OnePlace = (t : List Call) (n : ℕ) (e : Event) (element : List ℕ) → OneChanged t (stepTable t n e element)
 
--- NAMED. "Every record that a step does not name is left as it was": a place that changes is the lowest free one, for SETUP, or that of the
+-- NAMED. Every record that a step does not name is left as it was: a place that changes is the lowest free one, for SETUP, or that of the
 -- live call of the event's reference.
 pub record Lowest (t : List Call) (i : ℕ) : Type 0 where
   pub within : i < length t

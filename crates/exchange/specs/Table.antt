@@ -1,4 +1,4 @@
--- The table: which records are live and which places free, and number 25.
+-- The table looked through: the live record of a reference, the lowest free place, and number 25.
 use Prim.Native.Nat.{ℕ, _+_}
 use mathlib.Core.Bool.{Bool, true, false, cond, not, _&&_, _||_}
 use mathlib.Core.List.{List, [], _∷_}

@@ -2,8 +2,8 @@
 use Prim.Native.Nat.{_+_}
 use mathlib.Core.List.{[], _∷_}
 use mathlib.Core.Path.{_≡_, refl}
-use Rattle.message.specs.declared.reader.Fault.{Fault}
-use Rattle.message.specs.Numbers.{faultNumber}
+use Rattle.elements.specs.declared.Fault.{Fault}
+use Rattle.elements.specs.Numbers.{faultNumber}
 use Rattle.text.specs.Decimal.{digitsOf, decimalOf}
 
 pub taken-text : decimalOf 0 ≡ 48 ∷ []

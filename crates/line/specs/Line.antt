@@ -1,7 +1,7 @@
--- "then a line a message: the offset of its first octet in the capture; the number 0 to 5; .."
+-- The line of a message: the offset of its first octet in the capture, the number 0 to 5, and what the message says.
 use Prim.Native.Nat.{ℕ}
 use mathlib.Core.List.{List, [], _∷_, _++_}
-use Rattle.message.specs.declared.reader.Read.{Read}
+use Rattle.elements.specs.declared.Read.{Read}
 use Rattle.message.specs.Reading.{readOf}
 use Rattle.text.specs.Decimal.{decimalOf}
 use Rattle.line.specs.Columns.{columnsOf}

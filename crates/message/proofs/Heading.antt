@@ -7,11 +7,12 @@ use lib.ListN.{length, getD, drop}
 use Rattle.fields.specs.declared.kind.Kind.{Kind}
 use Rattle.fields.specs.declared.kind.Typed.{Typed}
 use Rattle.fields.specs.declared.Width.{Width}
-use Rattle.message.specs.declared.reader.Fault.{Fault}
-use Rattle.message.specs.declared.reader.Read.{Read}
+use Rattle.elements.specs.declared.Fault.{Fault}
+use Rattle.elements.specs.declared.Read.{Read}
 use Rattle.fields.specs.Kind.{kindOf}
-use Rattle.message.specs.Elements.{elements}
-use Rattle.message.specs.Reading.{widthOf, headerOf, takenOf, typedOf, headedOf}
+use Rattle.elements.specs.Elements.{elements}
+use Rattle.elements.specs.Meaning.{takenOf}
+use Rattle.message.specs.Reading.{widthOf, headerOf, typedOf, headedOf}
 
 module _ (w : Width) (m : List ℕ) where
   pub headed-short : length m < widthOf w + 3 → Read.Refused Fault.Short ≡ headedOf w m

@@ -1,4 +1,1 @@
-pub mod Elements
 pub mod Reading
-pub mod Scan
-pub mod Numbers

@@ -1,2 +1,2 @@
-// Whole messages: what their octets say. `writer` has the way back.
+// Whole messages: what their octets say. `elements` has what follows the header, `writer` the way back.
 pub mod reader;

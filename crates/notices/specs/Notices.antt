@@ -16,7 +16,7 @@ sixNames =
     ∷ 99 ∷ 97 ∷ 108 ∷ 108 ∷ 105 ∷ 110 ∷ 103 ∷ 32
     ∷ 99 ∷ 97 ∷ 108 ∷ 108 ∷ 101 ∷ 100 ∷ []
 
--- "First line exactly `kind ref answer note calling called to-calling to-called`": the same six names and two more
+-- First line exactly `kind ref answer note calling called to-calling to-called`: the same six names and two more
 abbrev pub twoNames : List ℕ
 twoNames =
     32 ∷ 116 ∷ 111 ∷ 45 ∷ 99 ∷ 97 ∷ 108 ∷ 108 ∷ 105 ∷ 110 ∷ 103

@@ -17,10 +17,11 @@ use Rattle.room.specs.Room.{placed, wroteOf, leftOf}
 use Rattle.room.specs.Numbers.{wroteNumber}
 use Rattle.fields.specs.declared.kind.Kind.{Kind}
 use Rattle.fields.specs.declared.Message.{Message}
-use Rattle.message.specs.declared.reader.Read.{Read}
+use Rattle.elements.specs.declared.Read.{Read}
 use Rattle.fields.specs.Kind.{kindOf}
-use Rattle.message.specs.Elements.{then, elements}
-use Rattle.message.specs.Reading.{takenOf, headedOf, readOf, userUserOf}
+use Rattle.elements.specs.Elements.{then, elements}
+use Rattle.elements.specs.Meaning.{takenOf}
+use Rattle.message.specs.Reading.{headedOf, readOf, userUserOf}
 use Rattle.writer.specs.Writing.{messageOctets, messageFits}
 use Rattle.octets.specs.Promises.{readRows, Reads, WholeElement, InRange, answerOf, bufferOf, writeRows, Write, Writes, Back, RoundTrip, Alike, Edges}
 use Rattle.octets.proofs.Table.{read-rows}

@@ -14,14 +14,15 @@ use Rattle.fields.specs.declared.kind.Kind.{Kind}
 use Rattle.fields.specs.declared.kind.Typed.{Typed}
 use Rattle.fields.specs.declared.Width.{Width}
 use Rattle.fields.specs.declared.Header.{Header}
-use Rattle.message.specs.declared.reader.Fault.{Fault}
-use Rattle.message.specs.declared.reader.Read.{Read}
+use Rattle.elements.specs.declared.Fault.{Fault}
+use Rattle.elements.specs.declared.Read.{Read}
 use Rattle.fields.specs.Kind.{kindOf}
-use Rattle.message.specs.Elements.{Element, element, Split, cut, whole, then, elements}
-use Rattle.message.specs.Reading.{takenOf, widthOf, headerOf, typedOf, headedOf, readOf}
-use Rattle.message.specs.Numbers.{faultNumber, readNumber}
+use Rattle.elements.specs.Elements.{Element, element, Split, cut, whole, then, elements}
+use Rattle.elements.specs.Meaning.{takenOf}
+use Rattle.message.specs.Reading.{widthOf, headerOf, typedOf, headedOf, readOf}
+use Rattle.elements.specs.Numbers.{faultNumber, readNumber}
 use Rattle.octets.specs.Promises.{Whole, none, alone, announced, readRows}
-use Rattle.message.proofs.Splitting as split
+use Rattle.elements.proofs.Splitting as split
 use Rattle.octets.proofs.Cases.{by-cond}
 
 abbrev isWhole : Split → Bool

@@ -25,18 +25,19 @@ use Rattle.fields.specs.declared.Message.{Message}
 use Rattle.fields.specs.declared.Place.{Place}
 use Rattle.fields.specs.declared.found.Seen.{Seen}
 use Rattle.fields.specs.declared.found.Found.{Found}
-use Rattle.message.specs.declared.reader.Read.{Read}
+use Rattle.elements.specs.declared.Read.{Read}
 use Rattle.fields.specs.Kind.{kindOf, kindOctet}
-use Rattle.message.specs.Elements.{element, elements, counted}
+use Rattle.elements.specs.Elements.{element, elements, counted}
 use Rattle.fields.specs.Found.{moreIn, levelIn, singleOf}
-use Rattle.message.specs.Reading.{takenOf, widthOf, headerOf, readOf, partOf, userUserOf}
+use Rattle.elements.specs.Meaning.{takenOf}
+use Rattle.message.specs.Reading.{widthOf, headerOf, readOf, partOf, userUserOf}
 use Rattle.fields.specs.Found.{oneMore, causeSeen}
-use Rattle.message.specs.Scan.{Adds, takenWith}
+use Rattle.elements.specs.Scan.{Adds, takenWith}
 use Rattle.writer.specs.Writing.{topOf, referenceOctets, headerOctets, headerSize, singleOctets, causesOctets, facilitiesOctets, frontOctets, messageOctets, referenceFits, plainFits, moreFits, singleFits, causesFit, facilitiesFit, userFits, messageFits}
 use Rattle.octets.specs.Promises.{UserElement, placeFor}
-use Rattle.message.proofs.Splitting.{alone, lengthy, none-left}
-use Rattle.message.proofs.Noting.{adds-cause, adds-facility, adds-place, adds-single}
-use Rattle.message.proofs.Turns.{nothing, goingOn, at-first, at-last, notes}
+use Rattle.elements.proofs.Splitting.{alone, lengthy, none-left}
+use Rattle.elements.proofs.Noting.{adds-cause, adds-facility, adds-place, adds-single}
+use Rattle.elements.proofs.Turns.{nothing, goingOn, at-first, at-last, notes}
 use Rattle.message.proofs.Heading.{headed-known}
 use Rattle.writer.proofs.Ranges.{both, Fits, fits, Small, small, front-is, message-is, header-size}
 use Rattle.octets.proofs.Range.{user-in}

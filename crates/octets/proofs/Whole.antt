@@ -13,13 +13,14 @@ use Rattle.fields.specs.declared.kind.Typed.{Typed}
 use Rattle.fields.specs.declared.Width.{Width}
 use Rattle.fields.specs.declared.Header.{Header}
 use Rattle.fields.specs.declared.Place.{Place}
-use Rattle.message.specs.declared.reader.Read.{Read}
+use Rattle.elements.specs.declared.Read.{Read}
 use Rattle.fields.specs.Kind.{kindOf}
-use Rattle.message.specs.Elements.{element, Split, cut, whole, then, elements, locking, shifting, counted}
-use Rattle.message.specs.Elements as el
-use Rattle.message.specs.Reading.{firstPlace, readingOf, takenOf, widthOf, headerOf, typedOf, headedOf, readOf, placeIn, partOf, userUserOf}
+use Rattle.elements.specs.Elements.{element, Split, cut, whole, then, elements, locking, shifting, counted}
+use Rattle.elements.specs.Elements as el
+use Rattle.elements.specs.Meaning.{firstPlace, readingOf, takenOf}
+use Rattle.message.specs.Reading.{widthOf, headerOf, typedOf, headedOf, readOf, placeIn, partOf, userUserOf}
 use Rattle.octets.specs.Promises as promise
-use Rattle.message.proofs.Splitting.{short}
+use Rattle.elements.proofs.Splitting.{short}
 use Rattle.octets.proofs.Cases.{by-cond}
 
 module _ (m : List ℕ) where

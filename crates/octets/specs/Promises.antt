@@ -18,11 +18,11 @@ use Rattle.fields.specs.declared.Single.{Single}
 use Rattle.fields.specs.declared.Facilities.{Facilities}
 use Rattle.fields.specs.declared.Message.{Message}
 use Rattle.fields.specs.declared.Place.{Place}
-use Rattle.message.specs.declared.reader.Read.{Read}
+use Rattle.elements.specs.declared.Read.{Read}
 use Rattle.fields.specs.Kind.{kindOf}
 use Rattle.message.specs.Reading.{readOf, placeIn, userUserOf}
 use Rattle.writer.specs.Writing.{frontOctets, messageOctets, messageFits}
-use Rattle.message.specs.Numbers.{readNumber}
+use Rattle.elements.specs.Numbers.{readNumber}
 
 -- READS. Octets that are whole elements, one after another.
 pub data Whole : List ℕ → Type 0 where
@@ -130,7 +130,7 @@ pub record Back (w : Message) (u m : List ℕ) : Type 0 where
 abbrev pub RoundTrip : Type 0
 RoundTrip = (w : Message) (u l : List ℕ) (n : ℕ) → answerOf w u l ≡ Wrote.To n → Back w u (take n (bufferOf w u l))
 
--- ALIKE. Of two messages that are written the same, the messages are the same.
+-- ALIKE. Of two messages that are written the same, the messages are the same, and so are their elements.
 abbrev pub Alike : Type 0
 Alike =
     (w w' : Message) (u u' : List ℕ) →

@@ -1,5 +1,5 @@
 // A trace from standard input to standard output, in a fixed amount of memory. What is printed is computed in `rerun` and
-// `report`; here octets are only read, kept and written.
+// `notices`; here octets are only read, kept and written.
 use call::Call;
 use libc::STDIN_FILENO;
 use libc::STDOUT_FILENO;

@@ -16,7 +16,7 @@ use Rattle.fields.specs.declared.Facilities.{Facilities as LineFacilities}
 use Rattle.fields.specs.declared.Message.{Message as LineMessage}
 use Rattle.fields.specs.declared.Single.{Single}
 use Rattle.fields.specs.declared.kind.Kind.{Kind as LineKind}
-use Rattle.message.specs.Reading.{andSays, firstThree}
+use Rattle.elements.specs.Meaning.{andSays, firstThree}
 use Rattle.octets.proofs.Promises.{alike}
 use Rattle.octets.proofs.Range.{range-fits}
 use Rattle.service.specs.declared.cause.Cause.{Cause}

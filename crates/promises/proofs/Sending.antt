@@ -13,13 +13,13 @@ use Rattle.component.specs.Facility.{invokeNumber}
 use Rattle.room.specs.Numbers.{wroteNumber}
 use Rattle.fields.specs.declared.Message.{Message as LineMessage}
 use Rattle.fields.specs.declared.Single.{Single}
-use Rattle.message.specs.Reading.{andSays, firstThree}
+use Rattle.elements.specs.Meaning.{andSays, firstThree}
 use Rattle.octets.specs.Promises.{SingleIn, CauseIn, FacilitiesIn, UserElement, InRange, answerOf}
 use Rattle.octets.proofs.Promises.{reads, round-trip, writes}
 use Rattle.octets.proofs.Range.{range-fits}
 use Rattle.octets.proofs.Trip.{message-back}
 use Rattle.writer.specs.Writing.{messageOctets}
-use Rattle.message.specs.Numbers.{readNumber}
+use Rattle.elements.specs.Numbers.{readNumber}
 use Rattle.service.specs.declared.cause.Cause.{Cause}
 use Rattle.service.specs.declared.element.Note.{Note}
 use Rattle.service.specs.declared.element.Seen.{Seen}

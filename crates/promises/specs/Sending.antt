@@ -17,7 +17,8 @@ use Rattle.fields.specs.declared.Message.{Message as LineMessage}
 use Rattle.fields.specs.declared.Single.{Single}
 use Rattle.fields.specs.declared.Width.{Width}
 use Rattle.fields.specs.declared.kind.Kind.{Kind as LineKind}
-use Rattle.message.specs.Reading.{andSays, firstThree, userUserOf}
+use Rattle.elements.specs.Meaning.{andSays, firstThree}
+use Rattle.message.specs.Reading.{userUserOf}
 use Rattle.writer.specs.Writing.{messageOctets}
 use Rattle.octets.specs.Promises.{highest, answerOf, bufferOf, Back}
 use Rattle.service.specs.declared.cause.Cause.{Cause}

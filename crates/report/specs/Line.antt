@@ -20,7 +20,7 @@ abbrev pub typeColumn : Sent → List ℕ
 typeColumn Sent.Absent = dash
 typeColumn (Sent.Present m) = hexOf (kindNumberOf (m .kind))
 
--- "a line is the line of `replay` and two more columns": only where the messages are explained
+-- a line is the line of `replay` and two more columns: only where the messages are explained
 abbrev pub saidColumns : Bool → Columns → List ℕ
 saidColumns true o = column (messageColumn (o .calling)) ++ column (messageColumn (o .called))
 saidColumns false o = []

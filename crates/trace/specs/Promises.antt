@@ -1,8 +1,7 @@
 -- What is promised of the records of a trace, over the definitions. Each statement is a type; `proofs/Promises.antt` has its proof.
 use Prim.Native.Nat.{ℕ, _+_, _-_, _<_, _≤_}
-use mathlib.Core.List.{List, [], _∷_, _++_}
+use mathlib.Core.List.{List}
 use mathlib.Core.Logic.{_⊎_}
-use mathlib.Core.Bool.{true}
 use mathlib.Core.Path.{_≡_}
 use lib.ListN.{length, getD}
 use Rattle.order.specs.First.{Rows, end, row, Exactly}

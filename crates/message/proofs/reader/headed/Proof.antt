@@ -10,7 +10,7 @@ use Rattle.message.proofs.reader.headed.Reads as reads
 use Rattle.message.proofs.reader.headed.Lts as lts
 use Rattle.fields.proofs.kind.kind_in.Reads as kind-in-reads
 use Rattle.message.proofs.reader.reference.Reads as reference-reads
-use Rattle.message.proofs.reader.scan.Reads as scan-reads
+use Rattle.elements.proofs.scan.Reads as scan-reads
 use Rattle.message.proofs.reader.width_size.Reads as width-size-reads
 
 width-size-requires : tie.Need-width-size-requires

@@ -14,15 +14,15 @@ use Rattle.fields.specs.declared.Header.{Header}
 use Rattle.fields.specs.declared.Place.{Place}
 use Rattle.fields.specs.declared.found.Seen.{Seen}
 use Rattle.fields.specs.declared.found.Found.{Found}
-use Rattle.message.specs.declared.reader.Fault.{Fault}
-use Rattle.message.specs.declared.reader.Read.{Read}
-use Rattle.message.specs.declared.reader.End.{End}
-use Rattle.message.specs.Elements.{Element, Split, cut, whole, then, elements, counted, between, Ended, Ends}
+use Rattle.elements.specs.declared.Fault.{Fault}
+use Rattle.elements.specs.declared.Read.{Read}
+use Rattle.elements.specs.declared.End.{End}
+use Rattle.elements.specs.Elements.{Element, Split, cut, whole, then, elements, counted, between, Ended, Ends}
 use Rattle.fields.specs.Found.{orSingle}
-use Rattle.message.specs.Reading.{firstSingle, firstCause, firstPlace, components, firstThree, readingOf, takenOf}
+use Rattle.elements.specs.Meaning.{firstSingle, firstCause, firstPlace, components, firstThree, readingOf, takenOf}
 use Rattle.fields.specs.Found.{causeSeen}
-use Rattle.message.specs.Scan.{causeThen, listed, placeThen, readingFrom, Adds, takenWith}
-use Rattle.message.proofs.Splitting.{none-left}
+use Rattle.elements.specs.Scan.{causeThen, listed, placeThen, readingFrom, Adds, takenWith}
+use Rattle.elements.proofs.Splitting.{none-left}
 
 -- what the end of an element says, by its answer
 module _ (m : List ℕ) (i : ℕ) (x : End) where

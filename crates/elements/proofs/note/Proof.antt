@@ -1,12 +1,12 @@
 use native.Mathlib.Omega.{arith}
-use Rattle.message.proofs.Splitting.{counts}
-use Rattle.message.proofs.Noting.{adds-cause, adds-facility, adds-place, adds-single}
+use Rattle.elements.proofs.Splitting.{counts}
+use Rattle.elements.proofs.Noting.{adds-cause, adds-facility, adds-place, adds-single}
 use borrow.Author.Tests.{ne-eqb}
 use borrow.Author.Needs.{needs}
-use Rattle.message.proofs.reader.note.Statement.{statement}
-use Rattle.message.proofs.reader.note.Tie as tie
-use Rattle.message.proofs.reader.note.Reads as reads
-use Rattle.message.proofs.reader.note.Lts as lts
+use Rattle.elements.proofs.note.Statement.{statement}
+use Rattle.elements.proofs.note.Tie as tie
+use Rattle.elements.proofs.note.Reads as reads
+use Rattle.elements.proofs.note.Lts as lts
 use Rattle.component.proofs.facility.facility_in.Reads as facility-in-reads
 use Rattle.fields.proofs.found.first_cause.Reads as first-cause-reads
 use Rattle.fields.proofs.found.first_place.Reads as first-place-reads

@@ -1,8 +1,8 @@
 use borrow.Author.Needs.{needs}
-use Rattle.message.proofs.reader.taken.Statement.{statement}
-use Rattle.message.proofs.reader.taken.Tie as tie
-use Rattle.message.proofs.reader.taken.Reads as reads
-use Rattle.message.proofs.reader.taken.Lts as lts
+use Rattle.elements.proofs.taken.Statement.{statement}
+use Rattle.elements.proofs.taken.Tie as tie
+use Rattle.elements.proofs.taken.Reads as reads
+use Rattle.elements.proofs.taken.Lts as lts
 use Rattle.fields.proofs.found.cause_seen.Reads as cause-seen-reads
 
 cause-seen-requires : tie.Need-cause-seen-requires

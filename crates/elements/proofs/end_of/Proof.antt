@@ -1,9 +1,9 @@
 -- Each answer is the turn of the recursion that splits the octets.
 use native.Mathlib.Omega.{arith}
 use borrow.Author.Needs.{needs}
-use Rattle.message.proofs.Splitting.{ends-alone, ends-lengthy, ends-cut}
-use Rattle.message.proofs.reader.end_of.Statement.{statement}
-use Rattle.message.proofs.reader.end_of.Tie as tie
+use Rattle.elements.proofs.Splitting.{ends-alone, ends-lengthy, ends-cut}
+use Rattle.elements.proofs.end_of.Statement.{statement}
+use Rattle.elements.proofs.end_of.Tie as tie
 
 shared-slice-read-if1 : tie.Need-shared-slice-read-if1
 shared-slice-read-if1 c = search needs

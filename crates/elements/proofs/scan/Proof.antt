@@ -4,12 +4,12 @@ use mathlib.Core.Path.{_≡_, _∙_}
 use mathlib.Core.Logic.{⊎-elim, inl, inr}
 use native.Mathlib.Omega.{arith}
 use lib.ListN.{length, drop}
-use Rattle.message.specs.Elements.{elements}
-use Rattle.message.proofs.Turns.{to, is-cut, goingOn, locked, at-first, on-pass, on-lock, on-shift, on-note, on-rest, out-cut, out-cut-rest, out-end, out-rest}
-use Rattle.message.specs.Reading.{takenOf}
+use Rattle.elements.specs.Elements.{elements}
+use Rattle.elements.proofs.Turns.{to, is-cut, goingOn, locked, at-first, on-pass, on-lock, on-shift, on-note, on-rest, out-cut, out-cut-rest, out-end, out-rest}
+use Rattle.elements.specs.Meaning.{takenOf}
 use borrow.Author.Needs.{needs}
-use Rattle.message.proofs.reader.scan.Statement.{statement}
-use Rattle.message.proofs.reader.scan.Tie as tie
+use Rattle.elements.proofs.scan.Statement.{statement}
+use Rattle.elements.proofs.scan.Tie as tie
 
 abbrev Inv-scan : tie.InvT-scan
 Inv-scan m start h i₀ pass₀ f₀ i pass f =

@@ -7,13 +7,13 @@ use Rattle.fields.specs.declared.Single.{Single}
 use Rattle.fields.specs.declared.Facilities.{Facilities}
 use Rattle.fields.specs.declared.Header.{Header}
 use Rattle.fields.specs.declared.Place.{Place}
-use Rattle.message.specs.declared.reader.Reading.{Reading}
-use Rattle.message.specs.declared.reader.Read.{Read}
+use Rattle.elements.specs.declared.Reading.{Reading}
+use Rattle.elements.specs.declared.Read.{Read}
 use Rattle.fields.specs.declared.found.Seen.{Seen}
 use Rattle.fields.specs.declared.found.Found.{Found}
-use Rattle.message.specs.Elements.{Element}
+use Rattle.elements.specs.Elements.{Element}
 use Rattle.fields.specs.Found.{orSingle, causeSeen}
-use Rattle.message.specs.Reading.{firstSingle, firstCause, firstPlace, components, firstThree}
+use Rattle.elements.specs.Meaning.{firstSingle, firstCause, firstPlace, components, firstThree}
 
 -- what was found before, and then the elements that are left
 abbrev pub causeThen : Seen → Cause → Cause

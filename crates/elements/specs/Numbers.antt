@@ -1,7 +1,7 @@
--- The paper's number for each case of an answer. The writer's numbers are those of `component`.
+-- The paper's number for each case of an answer. The writer's numbers are in `room`.
 use Prim.Native.Nat.{ℕ}
-use Rattle.message.specs.declared.reader.Fault.{Fault}
-use Rattle.message.specs.declared.reader.Read.{Read}
+use Rattle.elements.specs.declared.Fault.{Fault}
+use Rattle.elements.specs.declared.Read.{Read}
 
 -- 1 message ends before a part that it announces; 2 longer than 260 octets; 3 first octet is not 8; 4 call reference length
 -- octet is not 1 or 2; 5 message type not among the nine

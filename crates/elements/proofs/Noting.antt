@@ -15,11 +15,11 @@ use Rattle.fields.specs.declared.Header.{Header}
 use Rattle.fields.specs.declared.Place.{Place}
 use Rattle.fields.specs.declared.found.Seen.{Seen}
 use Rattle.fields.specs.declared.found.Found.{Found}
-use Rattle.message.specs.Elements.{Element}
+use Rattle.elements.specs.Elements.{Element}
 use Rattle.fields.specs.Found.{singleOf, orSingle}
-use Rattle.message.specs.Reading.{firstSingle, firstCause, firstPlace, andSays, components, firstThree}
+use Rattle.elements.specs.Meaning.{firstSingle, firstCause, firstPlace, andSays, components, firstThree}
 use Rattle.fields.specs.Found.{noteCause, oneMore, noteFacility, notePlace}
-use Rattle.message.specs.Scan.{causeThen, listed, placeThen, readingFrom, Adds}
+use Rattle.elements.specs.Scan.{causeThen, listed, placeThen, readingFrom, Adds}
 
 cause-law : (s : Seen) (b : List ℕ) (c : Cause) → causeThen (noteCause s b) c ≡ causeThen s (causeOf b)
 cause-law Seen.Unseen b c = refl

@@ -5,7 +5,7 @@ use mathlib.Core.Path.{_≡_}
 use mathlib.Core.Bool.{Bool, true, false, cond, _&&_}
 use lib.ListN.{length, getD, take, drop}
 use lib.Dec.{leb}
-use Rattle.message.specs.declared.reader.End.{End}
+use Rattle.elements.specs.declared.End.{End}
 
 -- where an element starts, its first octet, and the octets after its length
 pub record Element : Type 0 where

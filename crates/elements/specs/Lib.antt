@@ -1,0 +1,4 @@
+pub mod Elements
+pub mod Meaning
+pub mod Scan
+pub mod Numbers

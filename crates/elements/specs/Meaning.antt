@@ -1,0 +1,69 @@
+-- What the elements of a message say that count.
+use Prim.Native.Nat.{ℕ, _+_}
+use mathlib.Core.List.{List, [], _∷_}
+use mathlib.Core.Bool.{false, cond}
+use lib.ListN.{length}
+use lib.Dec.{eqb}
+use Rattle.cause.specs.declared.Cause.{Cause}
+use Rattle.component.specs.declared.facility.Component.{Component}
+use Rattle.component.specs.declared.facility.Facility.{Facility}
+use Rattle.cause.specs.Cause.{causeOf}
+use Rattle.component.specs.Facility.{facilityOf}
+use Rattle.fields.specs.declared.kind.Kind.{Kind}
+use Rattle.fields.specs.declared.Single.{Single}
+use Rattle.fields.specs.declared.Facilities.{Facilities}
+use Rattle.fields.specs.declared.Header.{Header}
+use Rattle.fields.specs.declared.Place.{Place}
+use Rattle.fields.specs.Found.{orSingle, singleOf}
+use Rattle.elements.specs.declared.Reading.{Reading}
+use Rattle.elements.specs.declared.Fault.{Fault}
+use Rattle.elements.specs.declared.Read.{Read}
+use Rattle.elements.specs.Elements.{Element, Split, cut, whole, counted}
+
+-- "The first Cause and level count."
+unfoldable pub firstSingle : Kind → List Element → Single
+firstSingle k [] = Single.Absent
+firstSingle k (e ∷ es) = orSingle (singleOf k (e .id)) (firstSingle k es)
+
+unfoldable pub firstCause : List Element → Cause
+firstCause [] = Cause.Absent
+firstCause (e ∷ es) = cond (eqb (e .id) 0x08) (causeOf (e .body)) (firstCause es)
+
+-- "The first User-user element counts": where it starts, and how many octets it has with its first two
+unfoldable pub firstPlace : List Element → Place
+firstPlace [] = Place.Absent
+firstPlace (e ∷ es) = cond (eqb (e .id) 0x7E) (Place.At (e .at) (length (e .body) + 2)) (firstPlace es)
+
+-- what the Facility elements say that can be read, in order
+abbrev pub andSays : Facility → List Component → List Component
+andSays Facility.Absent cs = cs
+andSays (Facility.Says c) cs = c ∷ cs
+
+unfoldable pub components : List Element → List Component
+components [] = []
+components (e ∷ es) = cond (eqb (e .id) 0x1C) (andSays (facilityOf (e .body)) (components es)) (components es)
+
+-- "and the first three Facility elements in order"
+abbrev pub firstThree : List Component → Facilities
+firstThree [] = Facilities.Zero
+firstThree (a ∷ []) = Facilities.One a
+firstThree (a ∷ b ∷ []) = Facilities.Two a b
+firstThree (a ∷ b ∷ c ∷ cs) = Facilities.Three a b c
+
+-- a header and the elements that count
+unfoldable pub readingOf : Header → List Element → Reading
+readingOf h es =
+    record {
+      message =
+          record {
+            header = h;
+            single = firstSingle (h .kind) es;
+            cause = firstCause es;
+            facility = firstThree (components es);
+          };
+      user = firstPlace es;
+    }
+
+unfoldable pub takenOf : Header → Split → Read
+takenOf h cut = Read.Refused Fault.Short
+takenOf h (whole es) = Read.Taken (readingOf h (counted false es))

@@ -1,0 +1,183 @@
+// The elements of a message: one pass over its octets, and no octet of it is copied.
+ghost use mathlib.Core.Path.{_≡_};
+ghost use Prim.Native.Nat.{_<_, _≤_, _+_};
+ghost use lib.ListN.{length, getD, drop};
+ghost use Rattle.elements.specs.Elements.{Ends, between, elements};
+ghost use Rattle.elements.specs.Meaning.{takenOf};
+ghost use Rattle.elements.specs.Scan.{Adds, takenWith};
+use component::facility::facility_in;
+use fields::Facilities;
+use fields::Header;
+use fields::Message;
+use fields::Place;
+use fields::Single;
+use fields::found::Found;
+use fields::found::Seen;
+use fields::found::cause_seen;
+use fields::found::first_cause;
+use fields::found::first_place;
+use fields::found::first_single;
+use fields::found::single_in;
+use fields::found::with_facility;
+
+pub struct Reading {
+    pub message: Message,
+    pub user: Place,
+}
+
+// Why a message is refused: it ends too early, is too long, begins with another protocol's octet, or has a reference length or
+// a type that is none of ours.
+pub enum Fault {
+    Short,
+    TooLong,
+    Foreign,
+    Reference,
+    Kind,
+}
+
+pub enum Read {
+    Taken(Reading),
+    Refused(Fault),
+}
+
+// Where the element at a place ends, if it does.
+enum End {
+    To(usize),
+    Cut,
+}
+
+fn wide(x: u8) -> usize
+    ensures { λ r. ⌜ r ≡ x ⌝ }
+{
+    x as usize
+}
+
+fn end_of(m: &[u8], i: usize) -> End
+    requires { ⌜ i < length (now m) ⌝ }
+    ensures { λ r. ⌜ Ends (now (m .entry)) i r ⌝ }
+{
+    if m[i] >= 0x80 {
+        return End::To(i + 1);
+    }
+    if m.len() - i < 2 {
+        return End::Cut;
+    }
+    let n = wide(m[i + 1]);
+    if m.len() - i - 2 < n {
+        return End::Cut;
+    }
+    End::To(i + 2 + n)
+}
+
+// What the element of m from i to e adds to what was found.
+fn note(h: Header, f: Found, m: &[u8], i: usize, e: usize) -> Found
+    requires { ⌜ (i < e) × (e ≤ length (now m)) × (getD (now m) i 0 < 128 → i + 2 ≤ e) ⌝ }
+    ensures { λ r. ⌜ Adds h f (between (now (m .entry)) i e) r ⌝ }
+{
+    let kind = h.kind;
+    let single = f.single;
+    let cause = f.cause;
+    let facility = f.facility;
+    let user = f.user;
+    let x = m[i];
+    match x {
+        0x08 => Found {
+            single: single,
+            cause: first_cause(cause, &m[i + 2..e]),
+            facility: facility,
+            user: user,
+        },
+        0x1C => Found {
+            single: single,
+            cause: cause,
+            facility: with_facility(facility, facility_in(&m[i + 2..e])),
+            user: user,
+        },
+        0x7E => Found {
+            single: single,
+            cause: cause,
+            facility: facility,
+            user: first_place(user, i, e - i),
+        },
+        _ => Found {
+            single: first_single(single, single_in(kind, x)),
+            cause: cause,
+            facility: facility,
+            user: user,
+        },
+    }
+}
+
+// The fields that were found, with what the header says.
+fn taken(h: Header, f: Found) -> Read
+    ensures { λ r. ⌜ r ≡ takenWith h f ⌝ }
+{
+    let single = f.single;
+    let cause = f.cause;
+    let facility = f.facility;
+    let user = f.user;
+    let message = Message {
+        header: h,
+        single: single,
+        cause: cause_seen(cause),
+        facility: facility,
+    };
+    Read::Taken(Reading {
+        message: message,
+        user: user,
+    })
+}
+
+// The elements from a place on. A locking shift ends the search; the lengths after it are still checked.
+pub fn scan(m: &[u8], start: usize, h: Header) -> Read
+    ensures { λ r. ⌜ r ≡ takenOf h (elements start 0 (drop start (now (m .entry)))) ⌝ }
+{
+    let mut i = start;
+    let mut pass = false;
+    let mut f = Found {
+        single: Single::Absent,
+        cause: Seen::Unseen,
+        facility: Facilities::Zero,
+        user: Place::Absent,
+    };
+    'scan: while i < m.len() {
+        match end_of(m, i) {
+            End::Cut => {
+                return Read::Refused(Fault::Short);
+            }
+            End::To(e) => {
+                if pass {
+                    pass = false;
+                    i = e;
+                } else {
+                    let x = m[i];
+                    match x {
+                        0x90..=0x97 => {
+                            i = e;
+                            break 'scan;
+                        }
+                        0x98..=0x9F => {
+                            pass = true;
+                            i = e;
+                        }
+                        _ => {
+                            f = note(h, f, m, i, e);
+                            i = e;
+                        }
+                    }
+                }
+            }
+        }
+    }
+    'rest: while i < m.len() {
+        match end_of(m, i) {
+            End::Cut => {
+                return Read::Refused(Fault::Short);
+            }
+            End::To(e) => {
+                i = e;
+            }
+        }
+    }
+    taken(h, f)
+}
