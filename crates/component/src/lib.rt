@@ -1,2 +1,2 @@
-// The bodies of the two elements that the box looks into: what a Facility or a Cause body says, and how each element is written.
+// The component that the body of a Facility element is, and how the element is written.
 pub mod facility;

@@ -1,4 +1,4 @@
-// The rules that need no call record: phases, sides, answers, messages, and who may ask for what.
+// The rules that need no call record: phases, sides, answers, messages, and which service serves.
 pub mod answer;
 pub mod message;
 pub mod phase;

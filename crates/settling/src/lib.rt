@@ -1,3 +1,3 @@
-// By value: which place of a table an event goes to, and what it makes of the record there.
+// By value: what an event makes of the record at its place in a table.
 pub mod plan;
 pub mod settle;
