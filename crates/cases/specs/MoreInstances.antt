@@ -1,4 +1,4 @@
--- Demand 3 at work: runs that meet every premise, and for each premise a run that goes wrong without it.
+-- Demand 3 at work: runs that meet every premise, and for each premise that is needed a run that goes wrong without it.
 use Prim.Native.Nat.{ℕ}
 use mathlib.Core.List.{List, [], _∷_, _++_}
 use mathlib.Core.Bool.{Bool, true, false}
@@ -245,7 +245,7 @@ OutOfRangeWrong =
     (lastIn full (starts Request.Unasked Request.Unasked (elementOf 4) ∷ []) ≡ octets (elementOf 4))
     × (lastIn outOfRange (starts Request.Unasked Request.Unasked (elementOf 4) ∷ []) ≡ nothing)
 
--- WITHOUT. No premise can be left out.
+-- NONE LEFT OUT. No premise can be left out but the range of the first's rights: out of range, the first SETUP is refused and nothing is handed over.
 abbrev pub NoneLeftOut : Type 0
 NoneLeftOut = EachWrong withouts × OutOfRangeWrong
 

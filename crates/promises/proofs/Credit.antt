@@ -53,7 +53,7 @@ use Rattle.promises.specs.Numbers.{Live, InRangeCall, other}
 use Rattle.promises.specs.Sound.{Offered, runOf}
 use Rattle.promises.specs.Credit.{Purse, Account, moves, grants, clears, fails, comes, accepts, lacks, remaining, begins, alerts, connects, byCount, byCredit, pays, informs, may, agrees, refills, holds, books, accountOf, unopened, Balanced, Credit, Covered}
 use Rattle.promises.proofs.Decide.{never, by-cond}
-use Rattle.promises.proofs.Heard.{Bar, unsound, phase, range, Heard, through, barred, heard}
+use Rattle.promises.proofs.Heard.{bar-not-taken, Heard, through, barred, heard}
 use Rattle.promises.proofs.Conditions.{requested, active, live, unsound as unsound-when}
 use Rattle.promises.proofs.Sound.{step-in}
 
@@ -520,18 +520,13 @@ module _ (c : Call) (q : Requests) (more : Bool) where
   unfolding withElementOf refusedOf
   element-covers side seen h = by-cond (Covers c q side) (wholeOf seen) (λ _. carried-covers side h) (λ _ z. absurd (omega arith))
 
-  bar-covers : {x : Answer} → Bar x → numberOf x ≡ 0 → ⊥
-  bar-covers unsound z = omega arith
-  bar-covers phase z = omega arith
-  bar-covers range z = omega arith
-
   covers : (side : Side) (l : List ℕ) → Covers c q side (informationOf c side more l)
   unfolding informationOf refusedOf
   covers side l = view (heard c _ _ _)
     where
       view : {s : Reply} → Heard c (talkingOf (c .phase)) true (withElementOf c (seenOf l (c .rights .limit)) (carriedOf c side more (informationPassageOf c side))) s → Covers c q side s
       view (through s h k) = element-covers side _ h
-      view (barred x) = λ z. absurd (bar-covers x z)
+      view (barred x) = λ z. absurd (bar-not-taken x z)
 
 pub covered : Covered
 covered os side more l z =

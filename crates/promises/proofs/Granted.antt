@@ -43,7 +43,7 @@ use Rattle.call.specs.Tick.{passesTickOf, tickOf}
 use Rattle.promises.specs.Numbers.{InForce, Has}
 use Rattle.promises.specs.Sound.{Offered, runOf}
 use Rattle.promises.specs.Handling.{Explicit, Implied}
-use Rattle.promises.specs.Services.{standingFor, Happens, Takes, Asks, request, element, facility, Accepts, alerting, connect, disconnect, Granted}
+use Rattle.promises.specs.Services.{standingFor, Happens, Takes, AsksFor, request, element, facility, Accepts, alerting, connect, disconnect, Granted}
 use Rattle.promises.proofs.Decide.{never, by-cond, both, as-is}
 use Rattle.promises.proofs.Heard.{Heard, through, barred, heard}
 use Rattle.promises.proofs.Conditions.{has}
@@ -71,7 +71,7 @@ in-force-stands s e = rw e tt
 
 -- what an event makes of a service, d being the record after it and n its answer: nothing that was not asked for, nor in force that was not accepted
 record Traces (c : Call) (k : Service) (e : Event) (l : List ℕ) (d : Call) (n : ℕ) : Type 0 where
-  asked : Known d k → (Known c k × (d .rights ≡ c .rights)) ⊎ ((n ≡ 0) × Asks k e l × Has (d .rights) k)
+  asked : Known d k → (Known c k × (d .rights ≡ c .rights)) ⊎ ((n ≡ 0) × AsksFor k e l × Has (d .rights) k)
   came : InForce (standingFor (d .standings) k) → InForce (standingFor (c .standings) k) ⊎ ((n ≡ 0) × Accepts k e l)
 
 abbrev TracesOf : Call → Service → Event → List ℕ → Reply → Type 0
@@ -129,7 +129,7 @@ nobody Service.Two x = x
 nobody Service.Three x = ⊎-elim (λ h. never h refl) (λ h. never h refl) x
 
 module _ (reference : ℕ) (rights : Rights) (q : Requests) (l : List ℕ) where
-  setup-asked : (k : Service) → Stands (standingFor (standingsOf rights q (seenOf l (rights .limit))) k) → Asks k (Event.Setup reference rights q) l × Has rights k
+  setup-asked : (k : Service) → Stands (standingFor (standingsOf rights q (seenOf l (rights .limit))) k) → AsksFor k (Event.Setup reference rights q) l × Has rights k
   unfolding standingsOf
   setup-asked Service.One w =
       let t = one-asked rights q l (sight l (rights .limit)) _ _ refl w in
@@ -349,9 +349,9 @@ fresh-unknown Service.One w = ⊎-elim (λ x. x) (λ x. x) w
 fresh-unknown Service.Two w = ⊎-elim (λ x. x) (λ x. x) w
 fresh-unknown Service.Three w = ⊎-elim (λ x. x) (nobody Service.Three) w
 
-asked-in : (k : Service) (os : List Offered) → Known (runOf freshCall os) k → Happens (Takes (Asks k)) os
+asked-in : (k : Service) (os : List Offered) → Known (runOf freshCall os) k → Happens (Takes (AsksFor k)) os
 asked-in k os w =
-    happens (λ c. Known c k) (Takes (Asks k))
+    happens (λ c. Known c k) (Takes (AsksFor k))
     (λ b o x. ⊎-elim (λ y. inl (y .0)) (λ y. inr (y .0, y .1)) (traces (runOf freshCall b) k (o .event) (o .element) .asked x))
     (fresh-unknown k) os w
 
@@ -368,7 +368,7 @@ granted os k i =
       had = run-has k freshCall os (λ w. absurd (fresh-unknown k w)) (inl (in-force-stands _ i));
       accepted =
           happens (λ c. InForce (standingFor (c .standings) k))
-          (λ b o. Takes (Accepts k) b o × Happens (Takes (Asks k)) (b ++ (o ∷ [])))
+          (λ b o. Takes (Accepts k) b o × Happens (Takes (AsksFor k)) (b ++ (o ∷ [])))
           (λ b o x.
           ⊎-elim (λ y. inl y)
           (λ y. inr ((y .0, y .1), asked-in k (b ++ (o ∷ [])) (rw run-append (inl (in-force-stands _ x)))))

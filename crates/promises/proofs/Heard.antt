@@ -1,8 +1,10 @@
 -- What the first tests of an event leave: a refusal that is bare, or the reply itself.
 use mathlib.Core.Bool.{Bool, true, false}
 use mathlib.Core.Path.{_≡_, refl}
+use native.Mathlib.Omega.{arith}
 use Rattle.service.specs.declared.element.Note.{Note}
 use Rattle.rules.specs.declared.answer.Answer.{Answer}
+use Rattle.rules.specs.Answer.{numberOf}
 use Rattle.call.specs.declared.Call.{Call}
 use Rattle.call.specs.declared.reply.Reply.{Reply}
 use Rattle.call.specs.Sound.{soundOf}
@@ -13,6 +15,12 @@ pub data Bar : Answer → Type 0 where
   unsound : Bar Answer.Unsound
   phase : Bar Answer.OutOfPhase
   range : Bar Answer.OutOfRange
+
+-- an event that is barred is not taken
+pub bar-not-taken : {x : Answer} → Bar x → numberOf x ≡ 0 → ⊥
+bar-not-taken unsound h = omega arith
+bar-not-taken phase h = omega arith
+bar-not-taken range h = omega arith
 
 pub data Heard (c : Call) (a g : Bool) (r : Reply) : Reply → Type 0 where
   through : soundOf c ≡ true → a ≡ true → g ≡ true → Heard c a g r r

@@ -15,7 +15,6 @@ use Rattle.meter.specs.declared.Passage.{Passage}
 use Rattle.service.specs.declared.rights.Rights.{Rights}
 use Rattle.service.specs.declared.rights.Service.{Service}
 use Rattle.service.specs.declared.element.Seen.{Seen}
-use Rattle.rules.specs.declared.answer.Answer.{Answer}
 use Rattle.asking.specs.declared.What.{What}
 use Rattle.rules.specs.declared.side.Side.{Side}
 use Rattle.call.specs.declared.Call.{Call}
@@ -36,8 +35,7 @@ use Rattle.call.specs.Setup.{proceedsOf, setupOf}
 use Rattle.call.specs.Sound.{soundOf}
 use Rattle.call.specs.Step.{notAnEventOf, stepOf}
 use Rattle.call.specs.Tick.{passesTickOf, tickOf}
-use Rattle.promises.specs.Numbers as n
-use Rattle.promises.specs.Numbers.{Unsound, NotAnEvent, Allowed, OutOfRange, WellFormed, Has, Asks, ServesTwo, ServesThree, Request, meterFrom, other, answerRows, Answers}
+use Rattle.promises.specs.Numbers.{Unsound, NotAnEvent, Allowed, OutOfRange, WellFormed, Has, Asks, ServesTwo, ServesThree, IsRequest, IsAnswer, meterFrom, other, answerRows, Answers}
 use Rattle.promises.proofs.Decide.{never, by-cond, Decides, Denies, denied, via, both, either, neither, as-is, always, over}
 use Rattle.promises.proofs.Conditions.{unsound, fresh, requested, connectable, talking, active, up, live, reference-range, rights-range, in-force, has, serves-two, serves-three}
 use Rattle.promises.proofs.Seen.{Sight, absent, malformed, too-long, whole, sight}
@@ -189,11 +187,11 @@ module _ (Required Barred Shut : Type 0) where
 not-required : What.Preferred ≡ What.Required → ⊥
 not-required e = let z : _≡_ {A = ℕ} 0 1 = cc in omega arith
 
-not-said : n.Answer What.Preferred → ⊥
+not-said : IsAnswer What.Preferred → ⊥
 not-said =
     ⊎-elim (λ e. absurd (let z : _≡_ {A = ℕ} 0 1 = cc in omega arith)) (λ e. absurd (let z : _≡_ {A = ℕ} 0 1 = cc in omega arith))
 
-answer-no-request : (what : What) → n.Answer what → Request what → ⊥
+answer-no-request : (what : What) → IsAnswer what → IsRequest what → ⊥
 answer-no-request what a r =
     ⊎-elim
     (λ e. ⊎-elim (λ f. let z : _≡_ {A = ℕ} 0 1 = cc in omega arith) (λ f. let z : _≡_ {A = ℕ} 0 1 = cc in omega arith) r)
@@ -216,7 +214,7 @@ module _ (c : Call) (l : List ℕ) (side : Side) where
       (⊎-elim (λ i. inl i) (⊎-elim (λ x. inr (x .1)) (λ x. absurd (not-said (x .0)))))
       d)
 
-  answer-rows : (what : What) → n.Answer what → First (sayRows what) (numberOf (toAnswerOf (inForceOf (c .standings .three) || not (asksOf (c .asking) (peerOf side)))))
+  answer-rows : (what : What) → IsAnswer what → First (sayRows what) (numberOf (toAnswerOf (inForceOf (c .standings .three) || not (asksOf (c .asking) (peerOf side)))))
   answer-rows what a =
       let d = either _ _ (in-force (c .standings .three)) (neither _ (asks-other c side)) in
       said-rows _ _ _ _ (λ e. answer-no-request what a (inr e)) (λ x. answer-no-request what a (x .0))

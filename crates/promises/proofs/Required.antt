@@ -43,7 +43,7 @@ use Rattle.promises.specs.Sound.{Offered, runOf}
 use Rattle.promises.specs.Notes.{Lacking, LacksRequired, Fails, AlertingFails, ConnectFails}
 use Rattle.promises.specs.Services.{requestFor, standingFor, Taken, Requires, asked, Required, setup, alerting, connect, Failed}
 use Rattle.promises.proofs.Decide.{never, by-cond}
-use Rattle.promises.proofs.Heard.{Bar, unsound, phase, range, Heard, through, barred, heard}
+use Rattle.promises.proofs.Heard.{bar-not-taken, Heard, through, barred, heard}
 use Rattle.promises.proofs.Conditions.{fresh, requested, connectable, active, has}
 
 -- a run goes on from where it came to
@@ -217,12 +217,6 @@ step-due k c Event.CongestionControl l w = w
 run-due : (k : Service) (c : Call) (os : List Offered) → DueIn k c → DueIn k (runOf c os)
 run-due k c [] w = w
 run-due k c (o ∷ os) w = run-due k _ os (step-due k c (o .event) (o .element) w)
-
--- an event that is barred is not taken
-pub bar-not-taken : {x : Answer} → Bar x → numberOf x ≡ 0 → ⊥
-bar-not-taken unsound h = omega arith
-bar-not-taken phase h = omega arith
-bar-not-taken range h = omega arith
 
 when-taken : (P : Reply → Type 0) (c : Call) (a g : Bool) (r : Reply) {s : Reply} → Heard c a g r s → numberOf (s .answer) ≡ 0 → P r → P s
 unfolding refusedOf

@@ -1,5 +1,5 @@
--- CREDIT. "No credit is invented or lost." Each credit and each service 2 count is a function of the events alone, with their elements: the account,
--- which says by itself which events count and what each does. No record, no answer and no message stands in it.
+-- CREDIT. No credit is invented or lost: each credit and each service 2 count is a function of the events alone, with their elements: the account,
+-- which says by itself which events count and what each does. No call record, no answer and no message stands in it.
 use Prim.Native.Nat.{ℕ, _+_, _-_}
 use mathlib.Core.List.{List, [], _∷_}
 use mathlib.Core.Bool.{Bool, true, false, cond, _&&_, _||_, not}
@@ -195,12 +195,12 @@ pub record Balanced (c : Call) (a : Account) (side : Side) : Type 0 where
   pub credit : meterFrom c side .credit ≡ purseOf a side .credit
   pub count : meterFrom c side .count ≡ purseOf a side .count
 
--- After every list of events from a fresh record each direction's credit and count are those of the account. The events of a run up to any one of them
--- are such a list: so this holds after every event of every run.
+-- CREDIT. After every list of events from a fresh record each direction's credit and count are those of the account. The events of a run up to any one of
+-- them are such a list: so this holds after every event of every run.
 abbrev pub Credit : Type 0
 Credit = (os : List Offered) (side : Side) → Balanced (runOf freshCall os) (accountOf unopened os) side
 
--- And nothing goes over unpaid: a message that is answered 0 is paid by the count, or by a credit that is there.
+-- COVERED. And nothing goes over unpaid: a message that is answered 0 is paid by the count, or by a credit that is there.
 abbrev pub Covered : Type 0
 Covered =
     (os : List Offered) (side : Side) (more : Bool) (l : List ℕ) →

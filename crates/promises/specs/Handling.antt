@@ -10,16 +10,19 @@ use Rattle.service.specs.declared.rights.Service.{Service}
 use Rattle.standing.specs.declared.Answers.{Answers}
 use Rattle.standing.specs.declared.Request.{Request}
 use Rattle.standing.specs.declared.Requests.{Requests}
+use Rattle.service.specs.Element.{noteNumberOf}
 use Rattle.rules.specs.declared.message.Kind.{Kind}
 use Rattle.rules.specs.declared.message.Message.{Message}
 use Rattle.rules.specs.declared.message.Sent.{Sent}
 use Rattle.rules.specs.declared.phase.Phase.{Phase}
 use Rattle.rules.specs.declared.side.Side.{Side}
+use Rattle.rules.specs.Answer.{numberOf}
 use Rattle.call.specs.declared.Call.{Call}
 use Rattle.call.specs.declared.Event.{Event}
+use Rattle.call.specs.declared.reply.Reply.{Reply}
 use Rattle.call.specs.Step.{stepOf}
 use Rattle.promises.specs.Numbers.{WellFormed, InForce, Has, ServesTwo, ServesThree, meterFrom, other}
-use Rattle.promises.specs.Notes.{limitFor}
+use Rattle.promises.specs.Notes.{Bare, limitFor}
 use Rattle.promises.specs.Refusals.{sentTo}
 
 -- the octets that a message hands over: the event's element if the message says that it goes out, and none otherwise
@@ -51,6 +54,19 @@ pub record Whole (c : Call) (e : Event) (l : List ℕ) (side : Side) : Type 0 wh
 -- UNALTERED. Whatever octets a user is handed at an event, they are the event's own element, whole.
 abbrev pub Unaltered : Type 0
 Unaltered = (c : Call) (e : Event) (l : List ℕ) (side : Side) → (handedTo c e l side ≡ [] → ⊥) → Whole c e l side
+
+-- the event is taken, and there is no note on its element
+abbrev pub Unnoted : Reply → Type 0
+Unnoted r = (numberOf (r .answer) ≡ 0) × (noteNumberOf (r .note) ≡ 0)
+
+pub record Out (c : Call) (e : Event) (l : List ℕ) : Type 0 where
+  pub unnoted : (Bare e → ⊥) → (length l ≡ 0 → ⊥) → Unnoted (stepOf c e l) → (to : Side) × Whole c e l to
+  pub dropped : (Unnoted (stepOf c e l) → ⊥) → (side : Side) → handedTo c e l side ≡ []
+
+-- GOES OUT. "A noted element is dropped and the rest acted on": an event's element goes out, whole and to the user that `Goes` names, exactly if the
+-- event is taken and there is no note on the element. Otherwise nobody is handed anything.
+abbrev pub GoesOut : Type 0
+GoesOut = (c : Call) (e : Event) (l : List ℕ) → Out c e l
 
 -- SETUP asks for a service by a request, or for service 1 by its element: "An element without note 1 or 2 and with no explicit request for service
 -- 1 is an implicit preferred request."

@@ -141,11 +141,11 @@ abbrev pub Spent : Call → Event → Type 0
 Spent c e = Informs e (λ side. (ServesTwo c side → 2 ≤ meterFrom c side .count) × (ServesThree c → meterFrom c side .credit ≡ 0))
 
 -- a request for service 3 while connected, and an answer to one
-abbrev pub Request : What → Type 0
-Request what = (what ≡ What.Preferred) ⊎ (what ≡ What.Required)
+abbrev pub IsRequest : What → Type 0
+IsRequest what = (what ≡ What.Preferred) ⊎ (what ≡ What.Required)
 
-abbrev pub Answer : What → Type 0
-Answer what = (what ≡ What.Accept) ⊎ (what ≡ What.Reject)
+abbrev pub IsAnswer : What → Type 0
+IsAnswer what = (what ≡ What.Accept) ⊎ (what ≡ What.Reject)
 
 -- 18: "service 3 asked as required while connected"
 abbrev pub AskedRequired : Event → Type 0
@@ -161,7 +161,7 @@ Has r Service.Three = r .services / 4 % 2 ≡ 1
 abbrev pub NotGranted : Call → Event → Type 0
 NotGranted c e =
     Says e
-    (λ side what. Request what × ((Has (c .rights) Service.Three → ⊥) ⊎ ((side ≡ Side.Called) × (c .rights .leave ≡ true → ⊥))))
+    (λ side what. IsRequest what × ((Has (c .rights) Service.Three → ⊥) ⊎ ((side ≡ Side.Called) × (c .rights .leave ≡ true → ⊥))))
 
 -- "Each side has its own open request."
 abbrev pub Asks : Call → Side → Type 0
@@ -177,7 +177,7 @@ abbrev pub NotOpen : Call → Event → Type 0
 NotOpen c e =
     Says e
     (λ side what.
-    InForce (c .standings .three) ⊎ ((Request what × Asks c side) ⊎ (Answer what × (Asks c (other side) → ⊥))))
+    InForce (c .standings .three) ⊎ ((IsRequest what × Asks c side) ⊎ (IsAnswer what × (Asks c (other side) → ⊥))))
 
 -- "25 comes first of 11 to 25; .. then the call 12, 11, 24, then: for USER INFORMATION 17, 13, 14; for a request 18, 16, 15; for an answer 15."
 abbrev pub answerRows : Call → Event → List ℕ → Rows

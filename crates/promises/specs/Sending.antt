@@ -1,4 +1,4 @@
--- A message of a reply on the line: how the host lays it out for the writer, and that it comes back in octets.
+-- A message of a reply on the line: how the host lays it out for the writer, and that what is written reads back as the same.
 use Prim.Native.Nat.{ℕ, _≤_}
 use mathlib.Core.List.{List, []}
 use mathlib.Core.Bool.{Bool, true, cond}

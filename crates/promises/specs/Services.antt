@@ -76,10 +76,10 @@ Failed =
     (c : Call) (e : Event) (l : List ℕ) (p : Phase) → Taken c e l → Failing c e p → stepOf c e l .call .phase ≡ p
 
 -- an event asks for a service, and may: SETUP by a request or, for service 1, by its element; FACILITY for service 3
-pub data Asks : Service → Event → List ℕ → Type 0 where
-  request : {k : Service} {reference : ℕ} {rights : Rights} {q : Requests} {l : List ℕ} → Has rights k → Explicit (requestFor q k) → Asks k (Event.Setup reference rights q) l
-  element : {reference : ℕ} {rights : Rights} {q : Requests} {l : List ℕ} → Has rights Service.One → Implied rights q l → Asks Service.One (Event.Setup reference rights q) l
-  facility : {side : Side} {l : List ℕ} → Asks Service.Three (Event.Facility side What.Preferred) l
+pub data AsksFor : Service → Event → List ℕ → Type 0 where
+  request : {k : Service} {reference : ℕ} {rights : Rights} {q : Requests} {l : List ℕ} → Has rights k → Explicit (requestFor q k) → AsksFor k (Event.Setup reference rights q) l
+  element : {reference : ℕ} {rights : Rights} {q : Requests} {l : List ℕ} → Has rights Service.One → Implied rights q l → AsksFor Service.One (Event.Setup reference rights q) l
+  facility : {side : Side} {l : List ℕ} → AsksFor Service.Three (Event.Facility side What.Preferred) l
 
 -- an event accepts a service that is due: "ALERTING .. Answers to 1 and 2 are due. CONNECT .. The answer to 3 is due, and to 1 if no ALERTING came";
 -- DISCONNECT from the called side for service 1; FACILITY for service 3; an element in SETUP puts service 1 in force by itself
@@ -93,7 +93,7 @@ pub data Accepts : Service → Event → List ℕ → Type 0 where
 -- the rights have the service; an event of the run accepted it, and by then one had asked for it
 pub record Grant (os : List Offered) (k : Service) : Type 0 where
   pub had : Has (runOf freshCall os .rights) k
-  pub accepted : Happens (λ before o. Takes (Accepts k) before o × Happens (Takes (Asks k)) (before ++ (o ∷ []))) os
+  pub accepted : Happens (λ before o. Takes (Accepts k) before o × Happens (Takes (AsksFor k)) (before ++ (o ∷ []))) os
 
 -- GRANTED. After every run from a fresh record a service is in force only if it was granted in that run.
 abbrev pub Granted : Type 0
