@@ -26,7 +26,8 @@ pub data SetupBarred (t : List Call) (reference : ℕ) (rights : Rights) : Type 
   alreadyHeld : Held t reference → SetupBarred t reference rights
   noPlace : Full t → SetupBarred t reference rights
 
--- What the table itself refuses: any event with 25, SETUP as above, "and 23 for other events". n is the reference beside the event.
+-- What the table itself refuses: any event with 25, SETUP as above, "and 23 for other events". n is the reference beside the event, and
+-- `opensOf e` says that e is a SETUP.
 pub data TableRefuses (t : List Call) (n : ℕ) : Event → Type 0 where
   faulty : (e : Event) → Faulty t → TableRefuses t n e
   setup : (reference : ℕ) (rights : Rights) (requests : Requests) →
