@@ -101,7 +101,7 @@ module _ (t : List Call) (m : ℕ) (e : Event) (l : List ℕ) (s : tableSound t 
   unfolding refusalOf
   agrees b k (out eo ef) g = refuses b _ (rw (eo, ef))
   agrees b k (held eo ef i eh) g = refuses b _ (rw (eo, ef, held-if-found t own _ eh))
-  agrees b k (full eo ef eh) g = refuses b _ (rw (eo, ef, held-if-found t own _ eh, g eo))
+  agrees b k (full eo ef eh ep) g = refuses b _ (rw (eo, ef, held-if-found t own _ eh, g eo))
   agrees b k (none eo eh) g = refuses b _ (rw (eo, held-if-found t own _ eh))
   agrees b k (new eo ef eh i ep) g =
       let h : lone-at own (heldCall t own) e b ≡ Choice.At 0 = rw (eo, ef, held-if-found t own _ eh, g eo, settled-not-full (getD t i freshCall) e l) in

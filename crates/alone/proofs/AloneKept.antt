@@ -215,14 +215,18 @@ module _ (c : Call) (m reference : ℕ) (rights : Rights) (q : Requests) (l : Li
         whatever = λ d. rw (filled c f, filled d f);
       }
 
+-- what holds of every SETUP holds of an event that opens a call
+pub of-setup : (P : Event → Type 0) → ((reference : ℕ) (rights : Rights) (q : Requests) → P (Event.Setup reference rights q)) → (e : Event) → opensOf e ≡ true → P e
+of-setup P h (Event.Setup reference rights q) o = h reference rights q
+of-setup P h (Event.Alerting answers) o = clash false o refl
+of-setup P h (Event.Connect answers) o = clash false o refl
+of-setup P h (Event.Information side more) o = clash false o refl
+of-setup P h (Event.Facility side what) o = clash false o refl
+of-setup P h (Event.Disconnect side cause answers) o = clash false o refl
+of-setup P h (Event.ReleaseComplete side) o = clash false o refl
+of-setup P h Event.Tick o = clash false o refl
+of-setup P h Event.CallProceeding o = clash false o refl
+of-setup P h Event.CongestionControl o = clash false o refl
+
 pub opens-in : (c : Call) (m : ℕ) (e : Event) (l : List ℕ) → opensOf e ≡ true → rangedOf e ≡ true → Opens c m e l
-opens-in c m (Event.Setup reference rights q) l o f = setup-in c m reference rights q l f
-opens-in c m (Event.Alerting answers) l o f = clash false o refl
-opens-in c m (Event.Connect answers) l o f = clash false o refl
-opens-in c m (Event.Information side more) l o f = clash false o refl
-opens-in c m (Event.Facility side what) l o f = clash false o refl
-opens-in c m (Event.Disconnect side cause answers) l o f = clash false o refl
-opens-in c m (Event.ReleaseComplete side) l o f = clash false o refl
-opens-in c m Event.Tick l o f = clash false o refl
-opens-in c m Event.CallProceeding l o f = clash false o refl
-opens-in c m Event.CongestionControl l o f = clash false o refl
+opens-in c m e l = of-setup (λ e. rangedOf e ≡ true → Opens c m e l) (λ reference rights q f. setup-in c m reference rights q l f) e

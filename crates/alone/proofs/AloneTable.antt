@@ -166,7 +166,7 @@ sound-if t false e h = absurd (h (is-faulty t e))
 pub data Chosen (t : List Call) (n : ℕ) (e : Event) : Choice → Type 0 where
   out : opensOf e ≡ true → rangedOf e ≡ false → Chosen t n e (Choice.Refused (Verdict.Heard Answer.OutOfRange))
   held : opensOf e ≡ true → rangedOf e ≡ true → (i : ℕ) → findFrom t 0 n ≡ Found.At i → Chosen t n e (Choice.Refused Verdict.Held)
-  full : opensOf e ≡ true → rangedOf e ≡ true → findFrom t 0 n ≡ Found.Nothing → Chosen t n e (Choice.Refused Verdict.NoPlace)
+  full : opensOf e ≡ true → rangedOf e ≡ true → findFrom t 0 n ≡ Found.Nothing → placeFrom t 0 ≡ Found.Nothing → Chosen t n e (Choice.Refused Verdict.NoPlace)
   new : opensOf e ≡ true → rangedOf e ≡ true → findFrom t 0 n ≡ Found.Nothing → (i : ℕ) → placeFrom t 0 ≡ Found.At i → Chosen t n e (Choice.At i)
   none : opensOf e ≡ false → findFrom t 0 n ≡ Found.Nothing → Chosen t n e (Choice.Refused Verdict.NoCall)
   old : opensOf e ≡ false → (i : ℕ) → findFrom t 0 n ≡ Found.At i → Chosen t n e (Choice.At i)
@@ -175,7 +175,7 @@ choices : (t : List Call) (n : ℕ) (e : Event) (o f : Bool) (h p : Found) → o
     → Chosen t n e (cond o (cond f (newPlaceOf h p) (Choice.Refused (Verdict.Heard Answer.OutOfRange))) (oldPlaceOf h))
 choices t n e true false h p eo ef eh ep = out eo ef
 choices t n e true true (Found.At i) p eo ef eh ep = held eo ef i eh
-choices t n e true true Found.Nothing Found.Nothing eo ef eh ep = full eo ef eh
+choices t n e true true Found.Nothing Found.Nothing eo ef eh ep = full eo ef eh ep
 choices t n e true true Found.Nothing (Found.At i) eo ef eh ep = new eo ef eh i ep
 choices t n e false f Found.Nothing p eo ef eh ep = none eo eh
 choices t n e false f (Found.At i) p eo ef eh ep = old eo i eh
@@ -213,7 +213,7 @@ module _ (t : List Call) (m : ℕ) (e : Event) (l : List ℕ) (s : tableSound t 
   sound-at : (k : Choice) → Chosen t (referenceOf m e) e k → Faulty (tableAt t k e l) → ⊥
   sound-at k (out eo ef) = not-faulty t s
   sound-at k (held eo ef i eh) = not-faulty t s
-  sound-at k (full eo ef eh) = not-faulty t s
+  sound-at k (full eo ef eh ep) = not-faulty t s
   sound-at k (new eo ef eh i ep) = no-fault t _ i _ (placed-new i eo ef eh ep) s
   sound-at k (none eo eh) = not-faulty t s
   sound-at k (old eo i eh) = no-fault t _ i _ (placed-old i eo eh) s
@@ -225,7 +225,7 @@ module _ (t : List Call) (m : ℕ) (e : Event) (l : List ℕ) (s : tableSound t 
   other-at : (n : ℕ) → (referenceOf m e ≡ n → ⊥) → (k : Choice) → Chosen t (referenceOf m e) e k → heldCall (tableAt t k e l) n ≡ heldCall t n
   other-at n h k (out eo ef) = refl
   other-at n h k (held eo ef i eh) = refl
-  other-at n h k (full eo ef eh) = refl
+  other-at n h k (full eo ef eh ep) = refl
   other-at n h k (new eo ef eh i ep) = placed-other t _ i _ (placed-new i eo ef eh ep) n h
   other-at n h k (none eo eh) = refl
   other-at n h k (old eo i eh) = placed-other t _ i _ (placed-old i eo eh) n h

@@ -1,1 +1,2 @@
-// No code: that a reference's answers do not depend on others, as a statement in `specs/`, and its proof.
+// No code: what is promised of the table beyond the statements of `exchange`, in `specs/`, and the proofs: what is replied, and that references do
+// not meddle with each other.

@@ -1,12 +1,12 @@
 -- The promises of the table, proved.
 use mathlib.Core.Path.{_≡_, refl, sym, _∙_, ap, subst}
 use Prim.Native.Nat.{ℕ, zero, suc}
-use mathlib.Core.Bool.{Bool, true, false, cond, _&&_, true≢false}
+use mathlib.Core.Bool.{Bool, true, false, cond, _&&_, _||_, true≢false}
 use mathlib.Core.List.{List, [], _∷_}
 use mathlib.Core.Logic.{_⊎_, inl, inr}
 use lib.Dec.{eqb}
 use lib.ListN.{length, getD, set, length-set}
-use borrow.Author.Tests.{eqb-true, eqb-false, eq-eqb}
+use borrow.Author.Tests.{eqb-true, eqb-false, eq-eqb, ne-eqb}
 use lib.Seq.{getD-set-other}
 use Rattle.order.specs.First.{First}
 use Rattle.order.proofs.Only.{exactly}
@@ -58,10 +58,10 @@ unfolding settledOf outcomeOf subjectOf setupOf heardOf barOf soundOf freshCall 
 setup-zero t i reference rights q l e =
     setup-taken (referenceFitsOf reference && rightsFitOf rights) (proceedsOf reference rights q (seenOf l (rights .limit))) (refusedOf freshCall (cond (referenceFitsOf reference && rightsFitOf rights) Answer.Taken Answer.OutOfRange) Note.Clear) refl e
 
-not-ranged : (reference : ℕ) (rights : Rights) → (referenceFitsOf reference && rightsFitOf rights) ≡ false → ReferenceIn reference × RightsIn rights → ⊥
+pub not-ranged : (reference : ℕ) (rights : Rights) → (referenceFitsOf reference && rightsFitOf rights) ≡ false → ReferenceIn reference × RightsIn rights → ⊥
 not-ranged reference rights e p = clash (referenceFitsOf reference && rightsFitOf rights) (and-true (referenceFitsOf reference) (rightsFitOf rights) (in-reference reference (p .0)) (in-rights rights (p .1))) e
 
-is-ranged : (reference : ℕ) (rights : Rights) → (referenceFitsOf reference && rightsFitOf rights) ≡ true → (ReferenceIn reference × RightsIn rights → ⊥) → ⊥
+pub is-ranged : (reference : ℕ) (rights : Rights) → (referenceFitsOf reference && rightsFitOf rights) ≡ true → (ReferenceIn reference × RightsIn rights → ⊥) → ⊥
 is-ranged reference rights e h =
     let p : (referenceFitsOf reference ≡ true) × (rightsFitOf rights ≡ true) = both (referenceFitsOf reference) (rightsFitOf rights) e in h (reference-in reference (p .0), rights-in rights (p .1))
 
@@ -115,18 +115,25 @@ put-back [] i = refl
 put-back (c ∷ l) zero = refl
 put-back (c ∷ l) (suc i) = ap (λ (m : List Call). c ∷ m) (put-back l i)
 
+-- "11 to 25 change no call .., except: 14"
+changes-when : (a : Answer) → changesOf a ≡ eqb (numberOf a) 0 || eqb (numberOf a) 14
+changes-when Answer.Taken = refl
+changes-when Answer.OutOfPhase = refl
+changes-when Answer.NotAnEvent = refl
+changes-when Answer.NoService = refl
+changes-when Answer.Spent = refl
+changes-when Answer.NotOpen = refl
+changes-when Answer.NotGranted = refl
+changes-when Answer.BadElement = refl
+changes-when Answer.AskedRequired = refl
+changes-when Answer.OutOfRange = refl
+changes-when Answer.Unsound = refl
+
+pub changes-at : (a : Answer) (n : ℕ) → numberOf a ≡ n → changesOf a ≡ eqb n 0 || eqb n 14
+changes-at a n h = changes-when a ∙ ap (λ (m : ℕ). eqb m 0 || eqb m 14) h
+
 refusal-keeps : (a : Answer) → (numberOf a ≡ 0 → ⊥) → (numberOf a ≡ 14 → ⊥) → changesOf a ≡ false
-refusal-keeps Answer.Taken h k = absurd (h refl)
-refusal-keeps Answer.OutOfPhase h k = refl
-refusal-keeps Answer.NotAnEvent h k = refl
-refusal-keeps Answer.NoService h k = refl
-refusal-keeps Answer.Spent h k = absurd (k refl)
-refusal-keeps Answer.NotOpen h k = refl
-refusal-keeps Answer.NotGranted h k = refl
-refusal-keeps Answer.BadElement h k = refl
-refusal-keeps Answer.AskedRequired h k = refl
-refusal-keeps Answer.OutOfRange h k = refl
-refusal-keeps Answer.Unsound h k = refl
+refusal-keeps a h k = changes-when a ∙ (λ j. ne-eqb (numberOf a) 0 h j || ne-eqb (numberOf a) 14 k j)
 
 settled-keeps : (c : Call) (e : Event) (l : List ℕ) → (verdictNumber (settledOf c e l .outcome .verdict) ≡ 0 → ⊥) → (verdictNumber (settledOf c e l .outcome .verdict) ≡ 14 → ⊥) → settledOf c e l .call ≡ c
 unfolding settledOf outcomeOf keptOf
@@ -169,7 +176,7 @@ old-names : (t : List Call) (n : ℕ) (w f : Bool) (p : Found) (i : ℕ) → cho
 old-names t n false f p i e = not-refused i _ (sym e)
 old-names t n true f p i e = old-live t n (findFrom t 0 n) i refl e
 
-chosen-names : (t : List Call) (n : ℕ) (e : Event) (i : ℕ) → chosenOf t n e ≡ Choice.At i → Names t n e i
+pub chosen-names : (t : List Call) (n : ℕ) (e : Event) (i : ℕ) → chosenOf t n e ≡ Choice.At i → Names t n e i
 unfolding chosenOf chooseOf
 chosen-names t n (Event.Setup reference rights q) i c = new-names t (tableSound t) (referenceFitsOf reference && rightsFitOf rights) (findFrom t 0 reference) i c
 chosen-names t n (Event.Alerting answers) i c = old-names t n (tableSound t) true (placeFrom t 0) i c
@@ -198,19 +205,6 @@ named t n e l i h = named-at t n e l i (chosenOf t n e) refl h
 not-14 : {X : Type 0} (n : ℕ) → eqb n 14 ≡ false → n ≡ 14 → X
 not-14 n e h = clash (eqb n 14) (eq-eqb n 14 h) e
 
-spent-changes : (a : Answer) → numberOf a ≡ 14 → changesOf a ≡ true
-spent-changes Answer.Taken h = not-14 0 refl h
-spent-changes Answer.OutOfPhase h = not-14 11 refl h
-spent-changes Answer.NotAnEvent h = not-14 12 refl h
-spent-changes Answer.NoService h = not-14 13 refl h
-spent-changes Answer.Spent h = refl
-spent-changes Answer.NotOpen h = not-14 15 refl h
-spent-changes Answer.NotGranted h = not-14 16 refl h
-spent-changes Answer.BadElement h = not-14 17 refl h
-spent-changes Answer.AskedRequired h = not-14 18 refl h
-spent-changes Answer.OutOfRange h = not-14 24 refl h
-spent-changes Answer.Unsound h = not-14 25 refl h
-
 -- an event that is no SETUP goes to the record as it stands
 own-number : (c : Call) (e : Event) (l : List ℕ) → opensOf e ≡ false → verdictNumber (settledOf c e l .outcome .verdict) ≡ numberOf (stepOf c e l .answer)
 unfolding settledOf outcomeOf subjectOf
@@ -220,7 +214,7 @@ own-kept : (c : Call) (e : Event) (l : List ℕ) → opensOf e ≡ false → num
 unfolding settledOf subjectOf keptOf
 own-kept c e l eo h =
     (λ j. cond (changesOf (stepOf (cond (eo j) freshCall c) e l .answer)) (stepOf (cond (eo j) freshCall c) e l .call) c)
-    ∙ ap (λ (t : Bool). cond t (stepOf c e l .call) c) (spent-changes (stepOf c e l .answer) h)
+    ∙ ap (λ (t : Bool). cond t (stepOf c e l .call) c) (changes-at (stepOf c e l .answer) 14 h)
 
 table-is : (t : List Call) (n : ℕ) (e : Event) (l : List ℕ) (w o f : Bool) (h p : Found) → tableSound t ≡ w → opensOf e ≡ o → rangedOf e ≡ f → findFrom t 0 (referenceOf n e) ≡ h → placeFrom t 0 ≡ p → stepTable t n e l ≡ tableAt t (choiceOf w o f h p) e l
 unfolding stepTable chosenOf chooseOf
