@@ -21,7 +21,7 @@ use Rattle.call.specs.Facility.{facilityVerdictOf, facilityCallOf, aboutThreeOf
 use Rattle.call.specs.Tick.{tickedMetersOf, refillsOf, readyOf, runsOf, passesTickOf, tickOf}
 use Rattle.call.specs.Step.{notAnEventOf}
 use Rattle.promises.specs.Numbers.{RightsInRange, Has}
-use Rattle.promises.specs.MoreRights.{NoLess, nothing, octets}
+use Rattle.promises.specs.MoreRights.{NoLess}
 use Rattle.cases.specs.MoreInstances.{rightsOf, MoreInstances, mended, Without, lastIn, GoesWrong, NoneLeftOut, CreditShown}
 use Rattle.promises.proofs.Conditions.{rights-range}
 
@@ -42,7 +42,7 @@ itself r i =
 ranged : (r : Rights) → rightsFitOf r ≡ true → RightsInRange r
 ranged r h = rights-range r .so h
 
-wrong : (w : Without) → rightsFitOf (w .first) ≡ true → rightsFitOf (w .second) ≡ true → mended (w .premise) (w .first) (w .second) ≡ w .first → lastIn (w .first) (w .events) ≡ octets (w .lost) → lastIn (w .second) (w .events) ≡ nothing → GoesWrong w
+wrong : (w : Without) → rightsFitOf (w .first) ≡ true → rightsFitOf (w .second) ≡ true → mended (w .premise) (w .first) (w .second) ≡ w .first → lastIn (w .first) (w .events) ≡ w .lost → lastIn (w .second) (w .events) ≡ [] → GoesWrong w
 wrong w a b e f g =
     record { range = ranged (w .second) b; others = rw e (itself (w .first) (ranged (w .first) a)); first = f; second = g }
 

@@ -15,7 +15,7 @@ use Rattle.promises.specs.Sound.{Offered}
 use Rattle.cases.specs.Edges.{elementOf, setup, silent}
 use Rattle.cases.specs.Instances.{bare}
 use Rattle.promises.specs.Credit.{Purse, accountOf, unopened}
-use Rattle.promises.specs.MoreRights.{withRights, NoLess, Got, nothing, octets, Handed, handedOf}
+use Rattle.promises.specs.MoreRights.{withRights, NoLess, Handed, handedOf}
 
 abbrev pub rightsOf : ℕ → Bool → Bool → ℕ → ℕ → ℕ → Rights
 rightsOf services late leave limit burst refill =
@@ -37,13 +37,13 @@ abbrev pub informs : Side → ℕ → Offered
 informs side n = record { event = Event.Information side false; element = elementOf n }
 
 abbrev pub neither : Handed
-neither = record { calling = nothing; called = nothing }
+neither = record { calling = []; called = [] }
 
 abbrev pub toCalling : ℕ → Handed
-toCalling n = record { calling = octets (elementOf n); called = nothing }
+toCalling n = record { calling = elementOf n; called = [] }
 
 abbrev pub toCalled : ℕ → Handed
-toCalled n = record { calling = nothing; called = octets (elementOf n) }
+toCalled n = record { calling = []; called = elementOf n }
 
 -- two lines, the events of a call, and what is handed over at each of them in the two runs
 pub record Pair : Type 0 where
@@ -125,19 +125,19 @@ pub record Without : Type 0 where
   pub events : List Offered
   pub lost : List ℕ
 
-abbrev pub lastTo : Handed → List Handed → Got
+abbrev pub lastTo : Handed → List Handed → List ℕ
 lastTo h [] = h .called
 lastTo h (g ∷ gs) = lastTo g gs
 
-abbrev pub lastIn : Rights → List Offered → Got
+abbrev pub lastIn : Rights → List Offered → List ℕ
 lastIn r os = lastTo neither (handedOf freshCall (withRights r os))
 
 -- every premise but the one is met, and the element is not handed over in the second run
 pub record GoesWrong (w : Without) : Type 0 where
   pub range : RightsInRange (w .second)
   pub others : NoLess (w .first) (mended (w .premise) (w .first) (w .second))
-  pub first : lastIn (w .first) (w .events) ≡ octets (w .lost)
-  pub second : lastIn (w .second) (w .events) ≡ nothing
+  pub first : lastIn (w .first) (w .events) ≡ w .lost
+  pub second : lastIn (w .second) (w .events) ≡ []
 
 abbrev pub EachWrong : List Without → Type 0
 EachWrong [] = Unit {0}
@@ -242,8 +242,8 @@ outOfRange = rightsOf 7 true true 10 256 2
 
 abbrev pub OutOfRangeWrong : Type 0
 OutOfRangeWrong =
-    (lastIn full (starts Request.Unasked Request.Unasked (elementOf 4) ∷ []) ≡ octets (elementOf 4))
-    × (lastIn outOfRange (starts Request.Unasked Request.Unasked (elementOf 4) ∷ []) ≡ nothing)
+    (lastIn full (starts Request.Unasked Request.Unasked (elementOf 4) ∷ []) ≡ elementOf 4)
+    × (lastIn outOfRange (starts Request.Unasked Request.Unasked (elementOf 4) ∷ []) ≡ [])
 
 -- NONE LEFT OUT. No premise can be left out but the range of the first's rights: out of range, the first SETUP is refused and nothing is handed over.
 abbrev pub NoneLeftOut : Type 0

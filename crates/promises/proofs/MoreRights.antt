@@ -52,7 +52,8 @@ use Rattle.call.specs.Step.{notAnEventOf, stepOf}
 use Rattle.call.specs.Tick.{tickedMetersOf, refillsOf, readyOf, runsOf, passesTickOf, tickOf}
 use Rattle.promises.specs.Numbers.{Live, InRangeCall}
 use Rattle.promises.specs.Sound.{Offered, runOf}
-use Rattle.promises.specs.MoreRights.{eventWith, withRights, NoLess, nothing, octets, gotOf, handedOf, Kept, NoFewer, end, also, InStep, MoreRights}
+use Rattle.promises.specs.Handling.{handedIn}
+use Rattle.promises.specs.MoreRights.{eventWith, withRights, NoLess, handedOf, Kept, NoFewer, end, also, InStep, MoreRights}
 use Rattle.promises.proofs.Decide.{never}
 use Rattle.promises.proofs.Heard.{Heard, through, barred, heard}
 use Rattle.promises.proofs.Conditions.{requested, connectable, talking, active, up, live, rights-range, unsound, has}
@@ -648,16 +649,16 @@ in-step c d (early h h') u = h' ∙ sym h
 in-step c d (going v b) u = b .phase
 in-step c d (over h) u = never (up (c .phase) .back u) (shut (c .phase) h .5)
 
-got-is : (s : Sent) (l : List ℕ) → gotOf s l ≡ cond (carriesOf s) (octets l) nothing
-got-is Sent.Absent l = refl
-got-is (Sent.Present m) l = refl
+handed-is : (s : Sent) (l : List ℕ) → handedIn s l ≡ cond (carriesOf s) l []
+handed-is Sent.Absent l = refl
+handed-is (Sent.Present m) l = refl
 
-kept-cond : (b b' : Bool) (l x : List ℕ) → (b ≡ true → b' ≡ true) → cond b (octets l) nothing ≡ octets x → cond b' (octets l) nothing ≡ octets x
-kept-cond true b' l x f h = rw (f refl) h
-kept-cond false b' l x f h = let z : _≡_ {A = ℕ} 0 1 = cc in absurd (omega arith)
+kept-cond : (b b' : Bool) (l : List ℕ) → (b ≡ true → b' ≡ true) → (cond b l [] ≡ [] → ⊥) → cond b' l [] ≡ cond b l []
+kept-cond true b' l f h = rw (f refl) refl
+kept-cond false b' l f h = absurd (h refl)
 
-kept : (s t : Sent) (l : List ℕ) → Gives s t → Kept (gotOf s l) (gotOf t l)
-kept s t l f x h = got-is t l ∙ kept-cond _ _ l x f (sym (got-is s l) ∙ h)
+kept : (s t : Sent) (l : List ℕ) → Gives s t → Kept (handedIn s l) (handedIn t l)
+kept s t l f h = handed-is t l ∙ (kept-cond _ _ l f (λ e. h (handed-is s l ∙ e)) ∙ sym (handed-is s l))
 
 module _ (r r' : Rights) (n : NoLess r r') where
   runs : (c d : Call) (os : List Offered) → Good c → Good d → Stage c d → NoFewer (handedOf c (withRights r os)) (handedOf d (withRights r' os)) × InStep (runOf c (withRights r os)) (runOf d (withRights r' os))

@@ -1,17 +1,18 @@
 -- DEMAND 3. More rights never hand over less.
 use Prim.Native.Nat.{ℕ, _≤_}
 use mathlib.Core.List.{List, [], _∷_}
-use mathlib.Core.Bool.{true, cond}
+use mathlib.Core.Bool.{true}
 use mathlib.Core.Path.{_≡_}
 use Rattle.service.specs.declared.rights.Rights.{Rights}
 use Rattle.service.specs.declared.rights.Service.{Service}
-use Rattle.rules.specs.declared.message.Sent.{Sent}
+use Rattle.rules.specs.declared.side.Side.{Side}
 use Rattle.call.specs.declared.Call.{Call}
 use Rattle.call.specs.declared.Event.{Event}
 use Rattle.call.specs.Sound.{freshCall}
 use Rattle.call.specs.Step.{stepOf}
 use Rattle.promises.specs.Numbers.{Up, RightsInRange, Has}
 use Rattle.promises.specs.Sound.{Offered, runOf}
+use Rattle.promises.specs.Handling.{handedTo}
 
 -- "Run the same events of one call, rights apart, twice": the rights stand in SETUP alone
 abbrev pub eventWith : Rights → Event → Event
@@ -42,32 +43,24 @@ pub record NoLess (r r' : Rights) : Type 0 where
   pub limit : r' .limit ≡ r .limit
   pub leave : r' .leave ≡ r .leave
 
--- what one user is handed of an event's element: its octets, if the message to this user says that the element goes out in it
-pub data Got : Type 0 where
-  nothing : Got
-  octets : List ℕ → Got
-
-abbrev pub gotOf : Sent → List ℕ → Got
-gotOf Sent.Absent l = nothing
-gotOf (Sent.Present m) l = cond (m .element) (octets l) nothing
-
+-- the octets that each user is handed
 pub record Handed : Type 0 where
-  pub calling : Got
-  pub called : Got
+  pub calling : List ℕ
+  pub called : List ℕ
 
 -- what is handed over at each event of a run
 abbrev pub handedOf : Call → List Offered → List Handed
 handedOf c [] = []
 handedOf c (o ∷ os) =
     record {
-      calling = gotOf (stepOf c (o .event) (o .element) .calling) (o .element);
-      called = gotOf (stepOf c (o .event) (o .element) .called) (o .element);
+      calling = handedTo c (o .event) (o .element) Side.Calling;
+      called = handedTo c (o .event) (o .element) Side.Called;
     }
     ∷ handedOf (stepOf c (o .event) (o .element) .call) os
 
 -- "each element handed over in the first run is handed over, octet for octet, at the same event in the second"
-abbrev pub Kept : Got → Got → Type 0
-Kept g h = (l : List ℕ) → g ≡ octets l → h ≡ octets l
+abbrev pub Kept : List ℕ → List ℕ → Type 0
+Kept g h = (g ≡ [] → ⊥) → h ≡ g
 
 pub data NoFewer : List Handed → List Handed → Type 0 where
   end : NoFewer [] []
