@@ -65,8 +65,8 @@ pub fn answers() {
     );
 }
 
-// Bodies that are not exactly one component of those.
-pub fn damaged() {
+// Bodies that end too soon.
+pub fn cut_short() {
     reads_body(b"empty body", b"", b"-");
     reads_body(
         b"request cut short",
@@ -79,9 +79,17 @@ pub fn damaged() {
         b"\x91\xA3\x06\x02\x01\x05\x02\x01",
         b"-",
     );
+}
+
+// Octets about a component that are not those of one.
+pub fn damaged() {
     reads_body(b"profile 92", b"\x92\xA2\x03\x02\x01\x05", b"-");
     reads_body(b"length one less", b"\x91\xA2\x02\x02\x01\x05", b"-");
     reads_body(b"an octet more", b"\x91\xA2\x03\x02\x01\x05\x00", b"-");
+}
+
+// Components that are none of those: reject, two of them, a length without an end, an invoke number too great.
+pub fn others() {
     reads_body(b"reject A4", b"\x91\xA4\x06\x02\x01\x05\x80\x01\x00", b"-");
     reads_body(
         b"two components",

@@ -7,7 +7,9 @@ mod show;
 fn main() {
     bodies::requests();
     bodies::answers();
+    bodies::cut_short();
     bodies::damaged();
+    bodies::others();
     bodies::unknown();
     bodies::requests_written();
     bodies::answers_written();
@@ -18,4 +20,6 @@ fn main() {
     messages::counted();
     messages::first_ones();
     messages::refused();
+    messages::out_of_range();
+    messages::no_room();
 }

@@ -179,24 +179,40 @@ fn given(kind: Kind, reference: u16, single: Single, f: Facilities) -> Message {
     }
 }
 
-// What the writer refuses: 7 before 6.
+// An ALERTING that says nothing more.
+fn plain(reference: u16) -> Message {
+    given(Kind::Alerting, reference, Single::Absent, Facilities::Zero)
+}
+
+// A level where none belongs, and none where one does.
 pub fn refused() {
     let ready = given(Kind::Alerting, 5, Single::Ready, Facilities::Zero);
     let no_level = given(Kind::CongestionControl, 5, Single::Absent, Facilities::Zero);
-    let far = given(Kind::Alerting, 128, Single::Absent, Facilities::Zero);
+    writes_message(b"level in ALERTING", ready, b"", b"");
+    writes_message(b"no level in CONGESTION CONTROL", no_level, b"", b"");
+}
+
+// Numbers and elements that cannot be written.
+pub fn out_of_range() {
     let number = given(
         Kind::Alerting,
         5,
         Single::Absent,
         Facilities::One(Component::Accepted(128)),
     );
-    let plain = given(Kind::Alerting, 127, Single::Absent, Facilities::Zero);
-    writes_message(b"level in ALERTING", ready, b"", b"");
-    writes_message(b"no level in CONGESTION CONTROL", no_level, b"", b"");
-    writes_message(b"reference 128 in one octet", far, b"", b"");
+    writes_message(b"reference 128 in one octet", plain(128), b"", b"");
     writes_message(b"invoke number 128 in a message", number, b"", b"");
-    writes_message(b"element of another length", plain, b"\x7E\x02\x04", b"");
-    writes_message(b"ALERTING", plain, b"", b"\x08\x01\x7F\x01");
-    writes_nowhere(b"no room", plain, b"", 6);
-    writes_nowhere(b"no room and out of range", far, b"", 7);
+    writes_message(
+        b"element of another length",
+        plain(127),
+        b"\x7E\x02\x04",
+        b"",
+    );
+}
+
+// 7 comes before 6.
+pub fn no_room() {
+    writes_message(b"ALERTING", plain(127), b"", b"\x08\x01\x7F\x01");
+    writes_nowhere(b"no room", plain(127), b"", 6);
+    writes_nowhere(b"no room and out of range", plain(128), b"", 7);
 }

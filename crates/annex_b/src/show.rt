@@ -47,13 +47,9 @@ fn length_octet(body: &[u8]) -> u8 {
 // A Facility body is read, as that of the one element of a FACILITY message: what stands in the column of its components.
 pub fn reads_body(name: &[u8], body: &[u8], expected: &[u8]) {
     let mut m = [0u8; 64];
-    let n = end_of(write_octets(&mut m, 6, body));
-    m[0] = 0x08;
-    m[1] = 0x01;
-    m[2] = 0x01;
-    m[3] = 0x62;
-    m[4] = 0x1C;
-    m[5] = length_octet(body);
+    let k = end_of(write_octets(&mut m, 0, b"\x08\x01\x01\x62\x1C"));
+    let l = end_of(write_octets(&mut m, k, &[length_octet(body)]));
+    let n = end_of(write_octets(&mut m, l, body));
     let mut line = [0u8; 256];
     let e = end_of(write_line(&mut line, 0, 0, part(&m, Place::At(0, n))));
     let found = part(&line, Place::At(15, std::num::wrapping_sub_usize(e, 18)));
