@@ -21,10 +21,11 @@ use Rattle.call.specs.Disconnect.{closingFacilitiesOf, closedCallOf, passedOnOf
 use Rattle.call.specs.Facility.{facilityVerdictOf, facilityCallOf, aboutThreeOf, passesFacilityOf, facilityOf}
 use Rattle.call.specs.Tick.{tickedMetersOf, refillsOf, readyOf, runsOf, passesTickOf, tickOf}
 use Rattle.call.specs.Step.{notAnEventOf}
-use Rattle.promises.specs.Numbers.{RightsInRange, Has}
+use Rattle.ranges.specs.Ranges.{RightsInRange}
+use Rattle.promises.specs.Numbers.{Has}
 use Rattle.promises.specs.MoreRights.{NoLess}
 use Rattle.cases.specs.MoreInstances.{rightsOf, MoreInstances, mended, Without, lastIn, GoesWrong, NoneLeftOut, CreditShown}
-use Rattle.promises.proofs.Conditions.{rights-range}
+use Rattle.ranges.proofs.Ranges.{rights-range}
 
 -- rights that differ in no premise
 itself : (r : Rights) → RightsInRange r → NoLess r r

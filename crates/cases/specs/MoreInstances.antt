@@ -10,7 +10,7 @@ use Rattle.asking.specs.declared.What.{What}
 use Rattle.rules.specs.declared.side.Side.{Side}
 use Rattle.call.specs.declared.Event.{Event}
 use Rattle.call.specs.Sound.{freshCall}
-use Rattle.promises.specs.Numbers.{RightsInRange}
+use Rattle.ranges.specs.Ranges.{RightsInRange}
 use Rattle.promises.specs.Sound.{Offered}
 use Rattle.cases.specs.Edges.{elementOf, setup, silent}
 use Rattle.cases.specs.Instances.{bare}

@@ -24,7 +24,7 @@ use Rattle.rules.specs.Serving.{lateOf, passesOf}
 use Rattle.call.specs.Answering.{grantsOf, inForceAfterOf}
 use Rattle.call.specs.Information.{meterOf}
 use Rattle.promises.specs.MoreRights.{NoLess}
-use Rattle.promises.proofs.Decide.{never, by-cond}
+use Rattle.ranges.proofs.Decide.{never, by-cond}
 
 -- a test that is true where another is
 pub and-right : (a b b' : Bool) → (b ≡ true → b' ≡ true) → (a && b) ≡ true → (a && b') ≡ true

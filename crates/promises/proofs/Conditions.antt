@@ -1,154 +1,18 @@
--- Each test of a call decides the paper's condition.
-use Prim.Native.Nat.{ℕ}
+-- Each test of a service decides the paper's condition.
 use mathlib.Core.Bool.{Bool, true, false, _&&_}
 use mathlib.Core.Logic.{_⊎_, inl, inr, ⊎-elim}
 use mathlib.Core.Path.{_≡_, refl}
-use Rattle.meter.specs.declared.Meter.{Meter}
 use Rattle.service.specs.declared.rights.Rights.{Rights}
 use Rattle.service.specs.declared.rights.Service.{Service}
 use Rattle.standing.specs.declared.Standing.{Standing}
 use Rattle.rules.specs.declared.phase.Phase.{Phase}
 use Rattle.rules.specs.declared.side.Side.{Side}
 use Rattle.call.specs.declared.Call.{Call}
-use Rattle.meter.specs.Meter.{meterFitsOf}
-use Rattle.service.specs.Rights.{hasOf, within, rightsFitOf, referenceFitsOf}
+use Rattle.service.specs.Rights.{hasOf}
 use Rattle.standing.specs.Standing.{inForceOf}
-use Rattle.rules.specs.Phase.{freshOf, requestedOf, connectableOf, talkingOf, activeOf, upOf, liveOf}
 use Rattle.rules.specs.Serving.{lateOf, servesTwoOf, servesThreeOf}
-use Rattle.call.specs.Sound.{fieldsFitOf, soundOf}
-use Rattle.promises.specs.Numbers.{Up, Live, Within, RightsInRange, MeterInRange, InRangeCall, Unsound, InForce, Has, ServesTwo, ServesThree}
-use Rattle.promises.proofs.Decide.{never, Decides, Denies, via, both, as-is, le, eq}
-
--- phases
-fresh-so : (p : Phase) → freshOf p ≡ true → p ≡ Phase.Fresh
-fresh-so Phase.Fresh h = refl
-fresh-so Phase.Requested h = never h refl
-fresh-so Phase.Alerting h = never h refl
-fresh-so Phase.Active h = never h refl
-fresh-so Phase.Clearing h = never h refl
-fresh-so Phase.Ended h = never h refl
-
-pub fresh : (p : Phase) → Decides (freshOf p) (p ≡ Phase.Fresh)
-fresh p = record { so = fresh-so p; back = λ e. rw e refl }
-
-requested-so : (p : Phase) → requestedOf p ≡ true → p ≡ Phase.Requested
-requested-so Phase.Fresh h = never h refl
-requested-so Phase.Requested h = refl
-requested-so Phase.Alerting h = never h refl
-requested-so Phase.Active h = never h refl
-requested-so Phase.Clearing h = never h refl
-requested-so Phase.Ended h = never h refl
-
-pub requested : (p : Phase) → Decides (requestedOf p) (p ≡ Phase.Requested)
-requested p = record { so = requested-so p; back = λ e. rw e refl }
-
-connectable-so : (p : Phase) → connectableOf p ≡ true → (p ≡ Phase.Requested) ⊎ (p ≡ Phase.Alerting)
-connectable-so Phase.Fresh h = never h refl
-connectable-so Phase.Requested h = inl refl
-connectable-so Phase.Alerting h = inr refl
-connectable-so Phase.Active h = never h refl
-connectable-so Phase.Clearing h = never h refl
-connectable-so Phase.Ended h = never h refl
-
-pub connectable : (p : Phase) → Decides (connectableOf p) ((p ≡ Phase.Requested) ⊎ (p ≡ Phase.Alerting))
-connectable p = record { so = connectable-so p; back = ⊎-elim (λ e. rw e refl) (λ e. rw e refl) }
-
-talking-so : (p : Phase) → talkingOf p ≡ true → (p ≡ Phase.Alerting) ⊎ (p ≡ Phase.Active)
-talking-so Phase.Fresh h = never h refl
-talking-so Phase.Requested h = never h refl
-talking-so Phase.Alerting h = inl refl
-talking-so Phase.Active h = inr refl
-talking-so Phase.Clearing h = never h refl
-talking-so Phase.Ended h = never h refl
-
-pub talking : (p : Phase) → Decides (talkingOf p) ((p ≡ Phase.Alerting) ⊎ (p ≡ Phase.Active))
-talking p = record { so = talking-so p; back = ⊎-elim (λ e. rw e refl) (λ e. rw e refl) }
-
-active-so : (p : Phase) → activeOf p ≡ true → p ≡ Phase.Active
-active-so Phase.Fresh h = never h refl
-active-so Phase.Requested h = never h refl
-active-so Phase.Alerting h = never h refl
-active-so Phase.Active h = refl
-active-so Phase.Clearing h = never h refl
-active-so Phase.Ended h = never h refl
-
-pub active : (p : Phase) → Decides (activeOf p) (p ≡ Phase.Active)
-active p = record { so = active-so p; back = λ e. rw e refl }
-
-up-so : (p : Phase) → upOf p ≡ true → Up p
-up-so Phase.Fresh h = never h refl
-up-so Phase.Requested h = inl refl
-up-so Phase.Alerting h = inr (inl refl)
-up-so Phase.Active h = inr (inr refl)
-up-so Phase.Clearing h = never h refl
-up-so Phase.Ended h = never h refl
-
-pub up : (p : Phase) → Decides (upOf p) (Up p)
-up p = record { so = up-so p; back = ⊎-elim (λ e. rw e refl) (⊎-elim (λ e. rw e refl) (λ e. rw e refl)) }
-
-live-so : (p : Phase) → liveOf p ≡ true → Live p
-live-so Phase.Fresh h = never h refl
-live-so Phase.Requested h = inl (inl refl)
-live-so Phase.Alerting h = inl (inr (inl refl))
-live-so Phase.Active h = inl (inr (inr refl))
-live-so Phase.Clearing h = inr refl
-live-so Phase.Ended h = never h refl
-
-pub live : (p : Phase) → Decides (liveOf p) (Live p)
-live p =
-    record {
-      so = live-so p;
-      back = ⊎-elim (⊎-elim (λ e. rw e refl) (⊎-elim (λ e. rw e refl) (λ e. rw e refl))) (λ e. rw e refl);
-    }
-
--- fields in range
-within-range : (least n greatest : ℕ) → Decides (within least n greatest) (Within least n greatest)
-within-range least n greatest = both _ _ (le least n) (le n greatest)
-
-pub reference-range : (n : ℕ) → Decides (referenceFitsOf n) (Within 1 n 32767)
-unfolding referenceFitsOf
-reference-range n = within-range 1 n 32767
-
-pub rights-range : (r : Rights) → Decides (rightsFitOf r) (RightsInRange r)
-unfolding rightsFitOf
-rights-range r =
-    via (λ t. record { services = t .0 .0 .0; limit = t .0 .0 .1; burst = t .0 .1; refill = t .1 })
-    (λ i. (((i .services, i .limit), i .burst), i .refill))
-    (both _ _
-    (both _ _ (both _ _ (le (r .services) 7) (within-range 3 (r .limit) 131)) (within-range 1 (r .burst) 255))
-    (within-range 1 (r .refill) 255))
-
-meter-range : (m : Meter) (burst : ℕ) → Decides (meterFitsOf m burst) (MeterInRange burst m)
-unfolding meterFitsOf
-meter-range m burst =
-    via (λ t. record { credit = t .0; count = t .1 }) (λ i. (i .credit, i .count)) (both _ _ (le (m .credit) burst) (le (m .count) 2))
-
-pub fields-range : (c : Call) → Decides (fieldsFitOf c) (InRangeCall c)
-unfolding fieldsFitOf
-fields-range c =
-    via (λ t. record { reference = t .0 .0 .0; rights = t .0 .0 .1; calling = t .0 .1; called = t .1 })
-    (λ i. (((i .reference, i .rights), i .calling), i .called))
-    (both _ _
-    (both _ _ (both _ _ (reference-range (c .reference)) (rights-range (c .rights))) (meter-range (c .meters .calling) (c .rights .burst)))
-    (meter-range (c .meters .called) (c .rights .burst)))
-
--- 25
-module _ (c : Call) where
-  unsound-by : (v f : Bool) → liveOf (c .phase) ≡ v → fieldsFitOf c ≡ f → Denies (soundOf c) (Unsound c)
-  unfolding soundOf
-  unsound-by true true e h =
-      rw (e, h) (record { so = λ n. never refl n; back = λ u. absurd (u .1 (fields-range c .so h)) })
-  unsound-by true false e h =
-      rw (e, h) (record { so = λ n. (live (c .phase) .so e, λ i. never (fields-range c .back i) h); back = λ u. refl })
-  unsound-by false f e h =
-      rw e (record { so = λ n. never refl n; back = λ u. never (live (c .phase) .back (u .0)) e })
-
-pub unsound : (c : Call) → Denies (soundOf c) (Unsound c)
-unsound c = unsound-by c _ _ refl refl
-
-pub in-range : (c : Call) → soundOf c ≡ true → Live (c .phase) → InRangeCall c
-unfolding soundOf
-in-range c s v = fields-range c .so (rw (live (c .phase) .back v) at s)
+use Rattle.promises.specs.Numbers.{InForce, Has, ServesTwo, ServesThree}
+use Rattle.ranges.proofs.Decide.{never, Decides, both, as-is, eq}
 
 -- services
 in-force-so : (s : Standing) → inForceOf s ≡ true → InForce s

@@ -49,12 +49,14 @@ use Rattle.call.specs.Setup.{setupPhaseOf, filledOf, proceedsOf, setupOf}
 use Rattle.call.specs.Sound.{soundOf, freshCall, noRights, noServices, inPhaseOf, emptyMeters}
 use Rattle.call.specs.Step.{notAnEventOf, stepOf}
 use Rattle.call.specs.Tick.{tickedMetersOf, refillsOf, runsOf, passesTickOf, tickOf}
-use Rattle.promises.specs.Numbers.{Live, InRangeCall, other}
+use Rattle.ranges.specs.Ranges.{Live, InRangeCall}
+use Rattle.promises.specs.Numbers.{other}
 use Rattle.promises.specs.Sound.{Offered, runOf}
 use Rattle.promises.specs.Credit.{Purse, Account, moves, grants, clears, fails, comes, accepts, lacks, remaining, begins, alerts, connects, byCount, byCredit, pays, informs, may, agrees, refills, holds, books, accountOf, unopened, Balanced, Credit, Covered}
-use Rattle.promises.proofs.Decide.{never, by-cond}
+use Rattle.ranges.proofs.Decide.{never, by-cond}
 use Rattle.promises.proofs.Heard.{bar-not-taken, Heard, through, barred, heard}
-use Rattle.promises.proofs.Conditions.{requested, active, live, unsound as unsound-when}
+use Rattle.ranges.proofs.Phases.{requested, active, live}
+use Rattle.ranges.proofs.Ranges.{unsound as unsound-when}
 use Rattle.promises.proofs.Sound.{step-in}
 
 -- the account that a record tells; q: the requests that SETUP left

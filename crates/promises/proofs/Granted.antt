@@ -44,7 +44,7 @@ use Rattle.promises.specs.Numbers.{InForce, Has}
 use Rattle.promises.specs.Sound.{Offered, runOf}
 use Rattle.promises.specs.Handling.{Explicit, Implied}
 use Rattle.promises.specs.Services.{standingFor, Happens, Takes, AsksFor, request, element, facility, Accepts, alerting, connect, disconnect, Granted}
-use Rattle.promises.proofs.Decide.{never, by-cond, both, as-is}
+use Rattle.ranges.proofs.Decide.{never, by-cond, both, as-is}
 use Rattle.promises.proofs.Heard.{Heard, through, barred, heard}
 use Rattle.promises.proofs.Conditions.{has}
 use Rattle.promises.proofs.Seen.{Sight, absent, malformed, too-long, whole, sight}

@@ -2,7 +2,6 @@ pub mod Apart
 pub mod Beside
 pub mod Conditions
 pub mod Credit
-pub mod Decide
 pub mod Granted
 pub mod Handling
 pub mod Heard

@@ -50,13 +50,15 @@ use Rattle.call.specs.Setup.{setupPhaseOf, filledOf, toCallerOf, toCalledOf, se
 use Rattle.call.specs.Sound.{soundOf, freshCall, inPhaseOf, emptyMeters}
 use Rattle.call.specs.Step.{notAnEventOf, stepOf}
 use Rattle.call.specs.Tick.{tickedMetersOf, refillsOf, readyOf, runsOf, passesTickOf, tickOf}
-use Rattle.promises.specs.Numbers.{Live, InRangeCall}
+use Rattle.ranges.specs.Ranges.{Live, InRangeCall}
 use Rattle.promises.specs.Sound.{Offered, runOf}
 use Rattle.promises.specs.Handling.{handedIn}
 use Rattle.promises.specs.MoreRights.{eventWith, withRights, NoLess, handedOf, Kept, NoFewer, end, also, InStep, MoreRights}
-use Rattle.promises.proofs.Decide.{never}
+use Rattle.ranges.proofs.Decide.{never}
 use Rattle.promises.proofs.Heard.{Heard, through, barred, heard}
-use Rattle.promises.proofs.Conditions.{requested, connectable, talking, active, up, live, rights-range, unsound, has}
+use Rattle.ranges.proofs.Phases.{requested, connectable, talking, active, up, live}
+use Rattle.ranges.proofs.Ranges.{rights-range, unsound}
+use Rattle.promises.proofs.Conditions.{has}
 use Rattle.promises.proofs.Sound.{step-in}
 use Rattle.promises.proofs.Beside.{and-right, and-left, idleOf, easyOf, Above, same, less, idle-force, force-up, remains-up, closing-up, twin-decided, twin-due, Third, shared, apart, above-third, Poorer, countsOf, passages, ticked-poorer, Poor, granted-count, grants-poor, third-poor, third-settled, Below}
 

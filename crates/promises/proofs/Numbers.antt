@@ -35,9 +35,12 @@ use Rattle.call.specs.Setup.{proceedsOf, setupOf}
 use Rattle.call.specs.Sound.{soundOf}
 use Rattle.call.specs.Step.{notAnEventOf, stepOf}
 use Rattle.call.specs.Tick.{passesTickOf, tickOf}
-use Rattle.promises.specs.Numbers.{Unsound, NotAnEvent, Allowed, OutOfRange, WellFormed, Has, Asks, ServesTwo, ServesThree, IsRequest, IsAnswer, meterFrom, other, answerRows, Answers}
-use Rattle.promises.proofs.Decide.{never, by-cond, Decides, Denies, denied, via, both, either, neither, as-is, always, over}
-use Rattle.promises.proofs.Conditions.{unsound, fresh, requested, connectable, talking, active, up, live, reference-range, rights-range, in-force, has, serves-two, serves-three}
+use Rattle.ranges.specs.Ranges.{Unsound}
+use Rattle.promises.specs.Numbers.{NotAnEvent, Allowed, OutOfRange, WellFormed, Has, Asks, ServesTwo, ServesThree, IsRequest, IsAnswer, meterFrom, other, answerRows, Answers}
+use Rattle.ranges.proofs.Decide.{never, by-cond, Decides, Denies, denied, via, both, either, neither, as-is, always, over}
+use Rattle.ranges.proofs.Phases.{fresh, requested, connectable, talking, active, up, live}
+use Rattle.ranges.proofs.Ranges.{unsound, reference-range, rights-range}
+use Rattle.promises.proofs.Conditions.{in-force, has, serves-two, serves-three}
 use Rattle.promises.proofs.Seen.{Sight, absent, malformed, too-long, whole, sight}
 use Rattle.promises.proofs.Refusals.{answered-taken}
 

@@ -42,9 +42,10 @@ use Rattle.promises.specs.Numbers.{InForce}
 use Rattle.promises.specs.Sound.{Offered, runOf}
 use Rattle.promises.specs.Notes.{Lacking, LacksRequired, Fails, AlertingFails, ConnectFails}
 use Rattle.promises.specs.Services.{requestFor, standingFor, Taken, Requires, asked, Required, setup, alerting, connect, Failed}
-use Rattle.promises.proofs.Decide.{never, by-cond}
+use Rattle.ranges.proofs.Decide.{never, by-cond}
 use Rattle.promises.proofs.Heard.{bar-not-taken, Heard, through, barred, heard}
-use Rattle.promises.proofs.Conditions.{fresh, requested, connectable, active, has}
+use Rattle.ranges.proofs.Phases.{fresh, requested, connectable, active}
+use Rattle.promises.proofs.Conditions.{has}
 
 -- a run goes on from where it came to
 pub run-append : (c : Call) (a b : List Offered) → runOf c (a ++ b) ≡ runOf (runOf c a) b

@@ -8,7 +8,7 @@ use lib.Dec.{leb, eqb}
 use Rattle.service.specs.declared.element.Seen.{Seen}
 use Rattle.service.specs.Element.{wellFormedOf, seenOf}
 use Rattle.promises.specs.Numbers.{WellFormed}
-use Rattle.promises.proofs.Decide.{never, by-cond, Decides, via, both, le, eq}
+use Rattle.ranges.proofs.Decide.{never, by-cond, Decides, via, both, le, eq}
 
 well-formed : (l : List ℕ) → Decides (wellFormedOf l) (WellFormed l)
 unfolding wellFormedOf

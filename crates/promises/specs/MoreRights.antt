@@ -10,7 +10,8 @@ use Rattle.call.specs.declared.Call.{Call}
 use Rattle.call.specs.declared.Event.{Event}
 use Rattle.call.specs.Sound.{freshCall}
 use Rattle.call.specs.Step.{stepOf}
-use Rattle.promises.specs.Numbers.{Up, RightsInRange, Has}
+use Rattle.ranges.specs.Ranges.{Up, RightsInRange}
+use Rattle.promises.specs.Numbers.{Has}
 use Rattle.promises.specs.Sound.{Offered, runOf}
 use Rattle.promises.specs.Handling.{handedTo}
 

@@ -17,37 +17,9 @@ use Rattle.rules.specs.Answer.{numberOf}
 use Rattle.call.specs.declared.Call.{Call}
 use Rattle.call.specs.declared.Event.{Event}
 use Rattle.call.specs.Step.{stepOf}
+use Rattle.ranges.specs.Ranges.{Up, Live, ReferenceInRange, RightsInRange, Unsound}
 
--- "Fresh, Requested, Alerting, Active, Clearing, Ended. "Up" means Requested, Alerting or Active." Live: all but Fresh and Ended.
-abbrev pub Up : Phase → Type 0
-Up p = (p ≡ Phase.Requested) ⊎ ((p ≡ Phase.Alerting) ⊎ (p ≡ Phase.Active))
-
-abbrev pub Live : Phase → Type 0
-Live p = Up p ⊎ (p ≡ Phase.Clearing)
-
--- "limit on the element 3 to 131, burst X 1 to 255, refill Y 1 to 255. References 1 to 32767." Services are an octet of three bits.
-abbrev pub Within : ℕ → ℕ → ℕ → Type 0
-Within least n greatest = (least ≤ n) × (n ≤ greatest)
-
-pub record RightsInRange (r : Rights) : Type 0 where
-  pub services : r .services ≤ 7
-  pub limit : Within 3 (r .limit) 131
-  pub burst : Within 1 (r .burst) 255
-  pub refill : Within 1 (r .refill) 255
-
-pub record MeterInRange (burst : ℕ) (m : Meter) : Type 0 where
-  pub credit : m .credit ≤ burst
-  pub count : m .count ≤ 2
-
-pub record InRangeCall (c : Call) : Type 0 where
-  pub reference : Within 1 (c .reference) 32767
-  pub rights : RightsInRange (c .rights)
-  pub calling : MeterInRange (c .rights .burst) (c .meters .calling)
-  pub called : MeterInRange (c .rights .burst) (c .meters .called)
-
--- 25, of one record: "a live record or meter with a field out of range, credit over X or count over 2"
-abbrev pub Unsound : Call → Type 0
-Unsound c = Live (c .phase) × (InRangeCall c → ⊥)
+-- 25 and the ranges: `ranges/specs/Ranges.antt`.
 
 -- 12: "CALL PROCEEDING or CONGESTION CONTROL offered as an event"
 abbrev pub NotAnEvent : Event → Type 0
@@ -68,7 +40,7 @@ Allowed Event.CongestionControl p = ⊥
 
 -- 24: "SETUP, reference or rights out of range; DISCONNECT, cause over 127"
 abbrev pub OutOfRange : Event → Type 0
-OutOfRange (Event.Setup reference rights requests) = Within 1 reference 32767 × RightsInRange rights → ⊥
+OutOfRange (Event.Setup reference rights requests) = ReferenceInRange reference × RightsInRange rights → ⊥
 OutOfRange (Event.Alerting answers) = ⊥
 OutOfRange (Event.Connect answers) = ⊥
 OutOfRange (Event.Information side more) = ⊥

@@ -7,7 +7,7 @@ use Rattle.call.specs.declared.Call.{Call}
 use Rattle.call.specs.declared.Event.{Event}
 use Rattle.call.specs.Sound.{freshCall}
 use Rattle.call.specs.Step.{stepOf}
-use Rattle.promises.specs.Numbers.{Live, InRangeCall}
+use Rattle.ranges.specs.Ranges.{Live, InRangeCall}
 
 -- an event with its element
 pub record Offered : Type 0 where

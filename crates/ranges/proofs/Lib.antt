@@ -1,0 +1,4 @@
+pub mod Decide
+pub mod Kept
+pub mod Phases
+pub mod Ranges
