@@ -24,11 +24,13 @@ use Rattle.exchange.specs.Chosen.{chosenOf}
 use Rattle.choosing.specs.Choice.{referenceOf, opensOf, rangedOf, newPlaceOf, oldPlaceOf, chooseOf}
 use Rattle.settling.specs.Settle.{settledOf}
 use Rattle.exchange.specs.Step.{tableAt, stepTable}
-use Rattle.exchange.specs.Promises.{LiveAt, FieldsIn, Faulty, over, twins, unsound, heldCall}
+use Rattle.ranges.specs.Ranges.{InRangeCall}
+use Rattle.exchange.specs.Promises.{LiveAt, Faulty, over, twins, unsound, heldCall}
 use Rattle.alone.specs.Alone.{AllFresh}
 use Rattle.exchange.proofs.Searched.{at-held}
 use Rattle.exchange.proofs.Counted.{both, and-true, clash, not-free, is-live, found-live, found-lowest, not-found, not-faulty, is-faulty}
-use Rattle.alone.proofs.AloneKept.{follows-in, settled-in, opens-in}
+use Rattle.ranges.proofs.Kept.{follows-in}
+use Rattle.alone.proofs.AloneKept.{settled-in, opens-in}
 
 not-so : (b : Bool) → (b ≡ true → ⊥) → b ≡ false
 not-so true h = absurd (h refl)
@@ -113,7 +115,7 @@ pub record Placed (t : List Call) (n i : ℕ) (d : Call) : Type 0 where
   pub within : i < length t
   pub before : (k : ℕ) → (n ≡ k → ⊥) → liveAs (getD t i freshCall) k ≡ false
   pub reference : d .reference ≡ n
-  pub fields : (FieldsIn d → ⊥) → ⊥
+  pub fields : (InRangeCall d → ⊥) → ⊥
   pub only : Only t i n
 
 other-not : (c : Call) (n k : ℕ) → c .reference ≡ n → (n ≡ k → ⊥) → liveAs c k ≡ false
@@ -149,7 +151,7 @@ module _ (t : List Call) (n i : ℕ) (d : Call) (p : Placed t n i d) where
   no-twins s a b k false true ea eb w h g = there a k (eqb-false a i ea) (here b k (eqb-true b i eb) g) h
   no-twins s a b k false false ea eb w h g = not-faulty t s (twins a b k w (back a k (eqb-false a i ea) h) (back b k (eqb-false b i eb) g))
 
-  no-unsound : tableSound t ≡ true → (a k : ℕ) (x : Bool) → eqb a i ≡ x → LiveAt (set t i d) a k → (FieldsIn (getD (set t i d) a freshCall) → ⊥) → ⊥
+  no-unsound : tableSound t ≡ true → (a k : ℕ) (x : Bool) → eqb a i ≡ x → LiveAt (set t i d) a k → (InRangeCall (getD (set t i d) a freshCall) → ⊥) → ⊥
   no-unsound s a k true ea h f = p .fields (rw (eqb-true a i ea, getD-set-same t i d freshCall (p .within)) at f)
   no-unsound s a k false ea h f = not-faulty t s (unsound a k (back a k (eqb-false a i ea) h) (rw (getD-set-other t i a d freshCall (eqb-false a i ea)) at f))
 

@@ -18,11 +18,12 @@ use Rattle.call.specs.Step.{stepOf}
 use Rattle.settling.specs.declared.settle.Outcome.{Outcome}
 use Rattle.choosing.specs.Choice.{verdictNumber, opensOf}
 use Rattle.exchange.specs.Step.{stepOutcome, stepTable}
-use Rattle.exchange.specs.Promises.{Faulty, ReferenceIn, RightsIn, Held, Full, Names}
+use Rattle.ranges.specs.Ranges.{ReferenceInRange, RightsInRange}
+use Rattle.exchange.specs.Promises.{Faulty, Held, Full, Names}
 
 -- "then the table gives 24, 22, 21 for SETUP"
 pub data SetupBarred (t : List Call) (reference : ℕ) (rights : Rights) : Type 0 where
-  outOfRange : (ReferenceIn reference × RightsIn rights → ⊥) → SetupBarred t reference rights
+  outOfRange : (ReferenceInRange reference × RightsInRange rights → ⊥) → SetupBarred t reference rights
   alreadyHeld : Held t reference → SetupBarred t reference rights
   noPlace : Full t → SetupBarred t reference rights
 

@@ -5,22 +5,20 @@ use native.Mathlib.Nat.{not-suc-le-zero, le-of-suc-le-suc}
 use native.Mathlib.Omega.{arith}
 use mathlib.Core.Bool.{Bool, true, false, cond, not, _&&_, _||_, true≢false}
 use mathlib.Core.List.{List, [], _∷_}
-use mathlib.Core.Logic.{_⊎_, inl, inr}
+use mathlib.Core.Logic.{inl, inr}
 use lib.Dec.{leb, eqb}
 use lib.ListN.{length, getD}
-use borrow.Author.Tests.{leb-true, leb-false, le-leb, eqb-true, eq-eqb}
-use Rattle.meter.specs.declared.Meter.{Meter}
-use Rattle.meter.specs.Meter.{meterFitsOf}
-use Rattle.service.specs.declared.rights.Rights.{Rights}
-use Rattle.service.specs.Rights.{rightsFitOf, referenceFitsOf}
+use borrow.Author.Tests.{leb-true, leb-false, eqb-true, eq-eqb}
 use Rattle.rules.specs.declared.phase.Phase.{Phase}
 use Rattle.rules.specs.Phase.{liveOf}
 use Rattle.call.specs.declared.Call.{Call}
 use Rattle.call.specs.Sound.{freshCall, soundOf, fieldsFitOf}
-use Rattle.choosing.specs.Look.{liveAs, freeOf, isAt}
-use Rattle.exchange.specs.Table.{greatestTable, findFrom, placeFrom, heldIn, callsSound, tableSound}
-use Rattle.exchange.specs.Promises.{Free, LiveAt, Held, Full, RightsIn, ReferenceIn, MeterIn, FieldsIn, Faulty, over, twins, unsound, heldCall, Lowest}
+use Rattle.choosing.specs.Look.{liveAs, isAt}
+use Rattle.exchange.specs.Table.{findFrom, placeFrom, heldIn, callsSound, tableSound}
+use Rattle.exchange.specs.Promises.{Free, LiveAt, Held, Full, Faulty, over, twins, unsound, heldCall, Lowest}
 use Rattle.choosing.specs.declared.look.Found.{Found}
+use Rattle.ranges.specs.Ranges.{InRangeCall}
+use Rattle.ranges.proofs.Ranges.{fields-range}
 use Rattle.exchange.proofs.Searched.{at-held}
 use Rattle.exchange.proofs.Within.{same-found}
 
@@ -54,72 +52,6 @@ live-cases p false e h = absurd (h (is-free p e))
 
 pub is-live : (p : Phase) → (Free p → ⊥) → liveOf p ≡ true
 is-live p h = live-cases p (liveOf p) refl h
-
--- ---- ranges
-within-in : (a n b : ℕ) → leb a n && leb n b ≡ true → (a ≤ n) × (n ≤ b)
-within-in a n b e = let p : (leb a n ≡ true) × (leb n b ≡ true) = both (leb a n) (leb n b) e in (leb-true a n (p .0), leb-true n b (p .1))
-
-in-within : (a n b : ℕ) → (a ≤ n) × (n ≤ b) → leb a n && leb n b ≡ true
-in-within a n b p = and-true (leb a n) (leb n b) (le-leb a n (p .0)) (le-leb n b (p .1))
-
-pub reference-in : (n : ℕ) → referenceFitsOf n ≡ true → ReferenceIn n
-unfolding referenceFitsOf
-reference-in n e = within-in 1 n 32767 e
-
-pub in-reference : (n : ℕ) → ReferenceIn n → referenceFitsOf n ≡ true
-unfolding referenceFitsOf
-in-reference n p = in-within 1 n 32767 p
-
-pub rights-in : (r : Rights) → rightsFitOf r ≡ true → RightsIn r
-unfolding rightsFitOf
-rights-in r e =
-    let p : (((leb (r .services) 7 && (leb 3 (r .limit) && leb (r .limit) 131)) && (leb 1 (r .burst) && leb (r .burst) 255)) ≡ true) × ((leb 1 (r .refill) && leb (r .refill) 255) ≡ true)
-    = both ((leb (r .services) 7 && (leb 3 (r .limit) && leb (r .limit) 131)) && (leb 1 (r .burst) && leb (r .burst) 255)) (leb 1 (r .refill) && leb (r .refill) 255) e in
-    let q : ((leb (r .services) 7 && (leb 3 (r .limit) && leb (r .limit) 131)) ≡ true) × ((leb 1 (r .burst) && leb (r .burst) 255) ≡ true)
-    = both (leb (r .services) 7 && (leb 3 (r .limit) && leb (r .limit) 131)) (leb 1 (r .burst) && leb (r .burst) 255) (p .0) in
-    let s : (leb (r .services) 7 ≡ true) × ((leb 3 (r .limit) && leb (r .limit) 131) ≡ true) = both (leb (r .services) 7) (leb 3 (r .limit) && leb (r .limit) 131) (q .0) in
-    record {
-      services = leb-true (r .services) 7 (s .0);
-      limit = within-in 3 (r .limit) 131 (s .1);
-      burst = within-in 1 (r .burst) 255 (q .1);
-      refill = within-in 1 (r .refill) 255 (p .1);
-    }
-
-pub in-rights : (r : Rights) → RightsIn r → rightsFitOf r ≡ true
-unfolding rightsFitOf
-in-rights r p =
-    and-true _ _ (and-true _ _ (and-true _ _ (le-leb (r .services) 7 (p .services)) (in-within 3 (r .limit) 131 (p .limit))) (in-within 1 (r .burst) 255 (p .burst))) (in-within 1 (r .refill) 255 (p .refill))
-
-meter-in : (m : Meter) (x : ℕ) → meterFitsOf m x ≡ true → MeterIn m x
-unfolding meterFitsOf
-meter-in m x e = let p : (leb (m .credit) x ≡ true) × (leb (m .count) 2 ≡ true) = both (leb (m .credit) x) (leb (m .count) 2) e in (leb-true (m .credit) x (p .0), leb-true (m .count) 2 (p .1))
-
-in-meter : (m : Meter) (x : ℕ) → MeterIn m x → meterFitsOf m x ≡ true
-unfolding meterFitsOf
-in-meter m x p = and-true (leb (m .credit) x) (leb (m .count) 2) (le-leb (m .credit) x (p .0)) (le-leb (m .count) 2 (p .1))
-
-fields-in : (c : Call) → fieldsFitOf c ≡ true → FieldsIn c
-unfolding fieldsFitOf
-fields-in c e =
-    let R : Bool = referenceFitsOf (c .reference) in
-    let S : Bool = rightsFitOf (c .rights) in
-    let A : Bool = meterFitsOf (c .meters .calling) (c .rights .burst) in
-    let B : Bool = meterFitsOf (c .meters .called) (c .rights .burst) in
-    let p : (((R && S) && A) ≡ true) × (B ≡ true) = both ((R && S) && A) B e in
-    let q : ((R && S) ≡ true) × (A ≡ true) = both (R && S) A (p .0) in
-    let s : (R ≡ true) × (S ≡ true) = both R S (q .0) in
-    record {
-      reference = reference-in (c .reference) (s .0);
-      rights = rights-in (c .rights) (s .1);
-      calling = meter-in (c .meters .calling) (c .rights .burst) (q .1);
-      called = meter-in (c .meters .called) (c .rights .burst) (p .1);
-    }
-
-in-fields : (c : Call) → FieldsIn c → fieldsFitOf c ≡ true
-unfolding fieldsFitOf
-in-fields c p =
-    and-true _ _ (and-true _ _ (and-true _ _ (in-reference (c .reference) (p .reference)) (in-rights (c .rights) (p .rights))) (in-meter (c .meters .calling) (c .rights .burst) (p .calling)))
-    (in-meter (c .meters .called) (c .rights .burst) (p .called))
 
 -- ---- one record more in front
 further : (c : Call) (l : List Call) (i n : ℕ) → LiveAt l i n → LiveAt (c ∷ l) (suc i) n
@@ -182,19 +114,19 @@ not-full [] i j e h = true≢false (sym (ap isAt e))
 not-full (c ∷ l) i j e h = not-full-more c l i j (liveOf (c .phase)) refl e h (λ f g. not-full l (i + 1) j f g)
 
 -- ---- 25
-sound-live : (c : Call) → soundOf c ≡ true → (Free (c .phase) → ⊥) → FieldsIn c
+sound-live : (c : Call) → soundOf c ≡ true → (Free (c .phase) → ⊥) → InRangeCall c
 unfolding soundOf
-sound-live c e h = fields-in c (sym (ap (λ (t : Bool). cond t (fieldsFitOf c) true) (is-live (c .phase) h)) ∙ e)
+sound-live c e h = fields-range c .so (sym (ap (λ (t : Bool). cond t (fieldsFitOf c) true) (is-live (c .phase) h)) ∙ e)
 
 unsound-cases : (t u : Bool) → cond t u true ≡ false → (t ≡ true) × (u ≡ false)
 unsound-cases true u e = (refl, e)
 unsound-cases false u e = absurd (true≢false e)
 
-unsound-live : (c : Call) → soundOf c ≡ false → (liveOf (c .phase) ≡ true) × (FieldsIn c → ⊥)
+unsound-live : (c : Call) → soundOf c ≡ false → (liveOf (c .phase) ≡ true) × (InRangeCall c → ⊥)
 unfolding soundOf
 unsound-live c e =
     let p : (liveOf (c .phase) ≡ true) × (fieldsFitOf c ≡ false) = unsound-cases (liveOf (c .phase)) (fieldsFitOf c) e in
-    (p .0, (λ h. true≢false (sym (in-fields c h) ∙ p .1)))
+    (p .0, (λ h. true≢false (sym (fields-range c .back h) ∙ p .1)))
 
 abbrev alone : Call → List Call → Bool
 alone c l = not (liveOf (c .phase) && heldIn l (c .reference))
@@ -204,7 +136,7 @@ calls-parts c l e =
     let p : ((soundOf c && alone c l) ≡ true) × (callsSound l ≡ true) = both (soundOf c && alone c l) (callsSound l) e in
     let q : (soundOf c ≡ true) × (alone c l ≡ true) = both (soundOf c) (alone c l) (p .0) in (q .0, q .1, p .1)
 
-calls-fields : (l : List Call) (i n : ℕ) → callsSound l ≡ true → LiveAt l i n → FieldsIn (getD l i freshCall)
+calls-fields : (l : List Call) (i n : ℕ) → callsSound l ≡ true → LiveAt l i n → InRangeCall (getD l i freshCall)
 calls-fields [] i n e h = absurd (not-suc-le-zero (h .within))
 calls-fields (c ∷ l) zero n e h = sound-live c (calls-parts c l e .0) (h .live)
 calls-fields (c ∷ l) (suc i) n e h = calls-fields l i n (calls-parts c l e .2) (nearer c l i n h)
@@ -233,7 +165,7 @@ further-faulty c l (unsound i n h k) = unsound (suc i) n (further c l i n h) k
 
 faulty-more : (c : Call) (l : List Call) (t u v : Bool) → soundOf c ≡ t → (liveOf (c .phase) && heldIn l (c .reference)) ≡ u → callsSound l ≡ v → (t && not u) && v ≡ false → (callsSound l ≡ false → Faulty l) → Faulty (c ∷ l)
 faulty-more c l false u v et eu ev e k =
-    let p : (liveOf (c .phase) ≡ true) × (FieldsIn c → ⊥) = unsound-live c et in
+    let p : (liveOf (c .phase) ≡ true) × (InRangeCall c → ⊥) = unsound-live c et in
     unsound 0 (c .reference) (record { within = omega arith; live = not-free (c .phase) (p .0); reference = refl }) (p .1)
 faulty-more c l true true v et eu ev e k =
     let p : (liveOf (c .phase) ≡ true) × (heldIn l (c .reference) ≡ true) = both (liveOf (c .phase)) (heldIn l (c .reference)) eu in

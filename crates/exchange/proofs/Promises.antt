@@ -3,16 +3,15 @@ use mathlib.Core.Path.{_≡_, refl, sym, _∙_, ap, subst}
 use Prim.Native.Nat.{ℕ, zero, suc}
 use mathlib.Core.Bool.{Bool, true, false, cond, _&&_, _||_, true≢false}
 use mathlib.Core.List.{List, [], _∷_}
-use mathlib.Core.Logic.{_⊎_, inl, inr}
+use mathlib.Core.Logic.{inl, inr}
 use lib.Dec.{eqb}
-use lib.ListN.{length, getD, set, length-set}
+use lib.ListN.{getD, set, length-set}
 use borrow.Author.Tests.{eqb-true, eqb-false, eq-eqb, ne-eqb}
 use lib.Seq.{getD-set-other}
 use Rattle.order.specs.First.{First}
 use Rattle.order.proofs.Only.{exactly}
 use Rattle.service.specs.declared.rights.Rights.{Rights}
 use Rattle.standing.specs.declared.Requests.{Requests}
-use Rattle.service.specs.declared.element.Seen.{Seen}
 use Rattle.service.specs.Element.{seenOf}
 use Rattle.service.specs.Rights.{rightsFitOf, referenceFitsOf}
 use Rattle.rules.specs.declared.answer.Answer.{Answer}
@@ -30,11 +29,13 @@ use Rattle.exchange.specs.Chosen.{chosenOf}
 use Rattle.choosing.specs.Choice.{verdictNumber, referenceOf, opensOf, rangedOf, newPlaceOf, oldPlaceOf, chooseOf}
 use Rattle.settling.specs.Settle.{subjectOf, changesOf, keptOf, outcomeOf, refusalOf, settledOf}
 use Rattle.exchange.specs.Step.{outcomeAt, tableAt, stepOutcome, stepTable}
-use Rattle.exchange.specs.Promises.{Held, Full, ReferenceIn, RightsIn, Faulty, heldCall, otherRows, tableRows, numberAt, Table, Refused, OneChanged, OnePlace, LiveAt, Lowest, Names, Named, OneSpent, Fourteen}
+use Rattle.exchange.specs.Promises.{heldCall, otherRows, tableRows, numberAt, Table, Refused, OneChanged, OnePlace, LiveAt, Lowest, Names, Named, OneSpent, Fourteen}
 use Rattle.choosing.specs.declared.look.Found.{Found}
 use Rattle.choosing.specs.declared.choice.Choice.{Choice}
 use Rattle.choosing.specs.declared.choice.Verdict.{Verdict}
-use Rattle.exchange.proofs.Counted.{both, and-true, clash, reference-in, in-reference, rights-in, in-rights, found-held, not-found, no-place, not-full, not-faulty, is-faulty, found-call, found-live, found-lowest}
+use Rattle.ranges.specs.Ranges.{ReferenceInRange, RightsInRange}
+use Rattle.ranges.proofs.Ranges.{reference-range, rights-range}
+use Rattle.exchange.proofs.Counted.{both, and-true, clash, found-held, not-found, no-place, not-full, not-faulty, is-faulty, found-call, found-live, found-lowest}
 use Rattle.exchange.proofs.Within.{not-refused, same-chosen}
 
 -- ---- the choice, from what the table's tests say
@@ -58,12 +59,12 @@ unfolding settledOf outcomeOf subjectOf setupOf heardOf barOf soundOf freshCall 
 setup-zero t i reference rights q l e =
     setup-taken (referenceFitsOf reference && rightsFitOf rights) (proceedsOf reference rights q (seenOf l (rights .limit))) (refusedOf freshCall (cond (referenceFitsOf reference && rightsFitOf rights) Answer.Taken Answer.OutOfRange) Note.Clear) refl e
 
-pub not-ranged : (reference : ℕ) (rights : Rights) → (referenceFitsOf reference && rightsFitOf rights) ≡ false → ReferenceIn reference × RightsIn rights → ⊥
-not-ranged reference rights e p = clash (referenceFitsOf reference && rightsFitOf rights) (and-true (referenceFitsOf reference) (rightsFitOf rights) (in-reference reference (p .0)) (in-rights rights (p .1))) e
+pub not-ranged : (reference : ℕ) (rights : Rights) → (referenceFitsOf reference && rightsFitOf rights) ≡ false → ReferenceInRange reference × RightsInRange rights → ⊥
+not-ranged reference rights e p = clash (referenceFitsOf reference && rightsFitOf rights) (and-true (referenceFitsOf reference) (rightsFitOf rights) (reference-range reference .back (p .0)) (rights-range rights .back (p .1))) e
 
-pub is-ranged : (reference : ℕ) (rights : Rights) → (referenceFitsOf reference && rightsFitOf rights) ≡ true → (ReferenceIn reference × RightsIn rights → ⊥) → ⊥
+pub is-ranged : (reference : ℕ) (rights : Rights) → (referenceFitsOf reference && rightsFitOf rights) ≡ true → (ReferenceInRange reference × RightsInRange rights → ⊥) → ⊥
 is-ranged reference rights e h =
-    let p : (referenceFitsOf reference ≡ true) × (rightsFitOf rights ≡ true) = both (referenceFitsOf reference) (rightsFitOf rights) e in h (reference-in reference (p .0), rights-in rights (p .1))
+    let p : (referenceFitsOf reference ≡ true) × (rightsFitOf rights ≡ true) = both (referenceFitsOf reference) (rightsFitOf rights) e in h (reference-range reference .so (p .0), rights-range rights .so (p .1))
 
 setup-first : (t : List Call) (n reference : ℕ) (rights : Rights) (q : Requests) (l : List ℕ) (w f : Bool) (h p : Found) → tableSound t ≡ w → (referenceFitsOf reference && rightsFitOf rights) ≡ f → findFrom t 0 reference ≡ h → placeFrom t 0 ≡ p
     → First (tableRows t n (Event.Setup reference rights q) l) (verdictNumber (outcomeAt t (choiceOf w true f h p) (Event.Setup reference rights q) l .verdict))

@@ -1,19 +1,18 @@
 -- What is promised of the table, over the definitions. Each statement is a type; `proofs/Promises.antt` has its proof.
-use Prim.Native.Nat.{ℕ, _<_, _≤_}
+use Prim.Native.Nat.{ℕ, _<_}
 use mathlib.Core.Bool.{cond}
 use mathlib.Core.List.{List, [], _∷_}
 use mathlib.Core.Logic.{_⊎_}
 use mathlib.Core.Path.{_≡_}
 use lib.ListN.{length, getD, set}
 use Rattle.order.specs.First.{Rows, end, row, Exactly}
-use Rattle.meter.specs.declared.Meter.{Meter}
-use Rattle.service.specs.declared.rights.Rights.{Rights}
 use Rattle.rules.specs.declared.phase.Phase.{Phase}
 use Rattle.rules.specs.Answer.{numberOf}
 use Rattle.call.specs.declared.Call.{Call}
 use Rattle.call.specs.declared.Event.{Event}
 use Rattle.call.specs.Sound.{freshCall}
 use Rattle.call.specs.Step.{stepOf}
+use Rattle.ranges.specs.Ranges.{ReferenceInRange, RightsInRange, InRangeCall}
 use Rattle.choosing.specs.Look.{liveAs}
 use Rattle.choosing.specs.Choice.{verdictNumber}
 use Rattle.exchange.specs.Step.{stepOutcome, stepTable}
@@ -35,32 +34,12 @@ Held t n = (i : ℕ) × LiveAt t i n
 abbrev pub Full : List Call → Type 0
 Full t = (i : ℕ) → i < length t → Free (getD t i freshCall .phase) → ⊥
 
--- "Services (any of 1, 2, 3) .., limit on the element 3 to 131, burst X 1 to 255, refill Y 1 to 255. References 1 to 32767."
-pub record RightsIn (r : Rights) : Type 0 where
-  pub services : r .services ≤ 7
-  pub limit : (3 ≤ r .limit) × (r .limit ≤ 131)
-  pub burst : (1 ≤ r .burst) × (r .burst ≤ 255)
-  pub refill : (1 ≤ r .refill) × (r .refill ≤ 255)
-
-abbrev pub ReferenceIn : ℕ → Type 0
-ReferenceIn n = (1 ≤ n) × (n ≤ 32767)
-
--- "credit over X or count over 2"
-abbrev pub MeterIn : Meter → ℕ → Type 0
-MeterIn m x = (m .credit ≤ x) × (m .count ≤ 2)
-
-pub record FieldsIn (c : Call) : Type 0 where
-  pub reference : ReferenceIn (c .reference)
-  pub rights : RightsIn (c .rights)
-  pub calling : MeterIn (c .meters .calling) (c .rights .burst)
-  pub called : MeterIn (c .meters .called) (c .rights .burst)
-
 -- "table over 32 records, two live records of one reference, or a live record or meter with a field out of range, credit over X or
 -- count over 2"
 pub data Faulty (t : List Call) : Type 0 where
   over : 32 < length t → Faulty t
   twins : (i j n : ℕ) → i < j → LiveAt t i n → LiveAt t j n → Faulty t
-  unsound : (i n : ℕ) → LiveAt t i n → (FieldsIn (getD t i freshCall) → ⊥) → Faulty t
+  unsound : (i n : ℕ) → LiveAt t i n → (InRangeCall (getD t i freshCall) → ⊥) → Faulty t
 
 -- the live record of the reference n, where there is one
 abbrev pub heldCall : List Call → ℕ → Call
@@ -77,7 +56,7 @@ otherRows t n e element =
 abbrev pub tableRows : List Call → ℕ → Event → List ℕ → Rows
 tableRows t n (Event.Setup reference rights requests) element =
     row (Faulty t) 25
-    (row (ReferenceIn reference × RightsIn rights → ⊥) 24 (row (Held t reference) 22 (row (Full t) 21 end)))
+    (row (ReferenceInRange reference × RightsInRange rights → ⊥) 24 (row (Held t reference) 22 (row (Full t) 21 end)))
 tableRows t n (Event.Alerting answers) element = otherRows t n (Event.Alerting answers) element
 tableRows t n (Event.Connect answers) element = otherRows t n (Event.Connect answers) element
 tableRows t n (Event.Information side more) element = otherRows t n (Event.Information side more) element
