@@ -1,5 +1,5 @@
 -- The promises, and what they rest on.
-use Prim.Native.Nat.{ℕ, suc, _+_, _-_, _/_, _%_, _≤_}
+use Prim.Native.Nat.{ℕ, zero, suc, _+_, _-_, _/_, _%_, _≤_}
 use mathlib.Core.List.{List, [], _∷_, _++_, append-assoc, append-nil}
 use mathlib.Core.Bool.{Bool, true, false}
 use mathlib.Core.Path.{_≡_, refl, ap, _∙_}
@@ -7,10 +7,10 @@ use native.Mathlib.Omega.{arith}
 use native.Mathlib.Nat.{div-add-mod'}
 use borrow.Author.Tests.{ltb-true, ltb-false, leb-true, leb-false, le-leb}
 use lib.Dec.{ltb, leb}
-use lib.ListN.{length, take, drop, length-append, length-take, length-drop, List·getD-eq-default}
+use lib.ListN.{length, take, drop, replicate, length-append, length-take, length-drop, List·getD-eq-default}
 use lib.Seq.{take-append-seam, drop-append-seam, drop-append-le, getD-take, getD-drop}
 use Rattle.capture.specs.Frames.{Frame, laterOf, sizeOf, framesOf, lineAt, linesOf, fitting, spanOf, workedOff, printedOf}
-use Rattle.capture.specs.Promises.{Offset, GoesOn, endToEnd, octetsIn, LineEach, Octets, Run, WholeRun}
+use Rattle.capture.specs.Promises.{Offset, GoesOn, endToEnd, octetsIn, LineEach, Octets, Run, WholeRun, Runs, Always}
 use Rattle.capture.proofs.Framing.{firstOf, frames-turn, frames-end}
 use Rattle.capture.proofs.Bounds.{bounded}
 use Rattle.capture.proofs.Fronts.{Front, front-of}
@@ -122,3 +122,26 @@ unfolding printedOf
 whole-run capture text left o r =
     let p = run o (omega arith) r in
     rw (p .lines, p .rest)
+
+-- in a buffer with room for any line, what it holds is worked off in as many turns as it has octets
+abbrev room : List ℕ
+room = replicate 85 0
+
+abbrev span : ℕ → List ℕ → ℕ
+span offset held = spanOf (workedOff held offset room)
+
+turn : (offset : ℕ) (held : List ℕ) → (1 ≤ span offset held → Runs (laterOf offset (span offset held)) (drop (span offset held) held) []) → Runs offset held []
+turn offset held then =
+    either-way (leb 1 (span offset held))
+    (λ t. record { text = _; left = _; run = Run.prints held [] room (then (leb-true 1 _ t) .run) })
+    (λ t. record { text = _; left = _; run = Run.ended offset held room (omega arith) (omega (arith, leb-false 1 (span offset held) t)) })
+
+turns : (n offset : ℕ) (held : List ℕ) → length held ≤ n → Offset offset → Runs offset held []
+turns zero offset held h o = turn offset held (λ u. absurd (omega (arith, front held [] room offset o .within)))
+turns (suc n) offset held h o = turn offset held (λ u. turns n _ _ (rw length-drop (omega arith)) (later-small offset _))
+
+pub always : Always
+always offset held more o =
+    let r = turns (length (held ++ more)) offset (held ++ more) (omega arith) o in
+    let all : Runs offset held (more ++ []) = record { text = _; left = _; run = Run.reads held more [] (r .run) } in
+    rw append-nil at all

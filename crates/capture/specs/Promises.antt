@@ -58,3 +58,12 @@ pub data Run : ℕ → List ℕ → List ℕ → List ℕ → ℕ → Type 0 whe
 -- capture is.
 abbrev pub WholeRun : Type 0
 WholeRun = (capture text : List ℕ) (left : ℕ) → Octets capture → Run 0 [] capture text left → firstLine ++ text ++ lastLine left ≡ printedOf capture
+
+-- ALWAYS. Whatever a run holds and whatever has yet to come, it can go on to an end: so every capture has a run.
+pub record Runs (offset : ℕ) (held more : List ℕ) : Type 0 where
+  pub text : List ℕ
+  pub left : ℕ
+  pub run : Run offset held more text left
+
+abbrev pub Always : Type 0
+Always = (offset : ℕ) (held more : List ℕ) → Offset offset → Runs offset held more
