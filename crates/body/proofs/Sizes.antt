@@ -1,5 +1,5 @@
 -- How long a record is at the least.
-use Prim.Native.Nat.{ℕ, _≤_}
+use Prim.Native.Nat.{_≤_}
 use native.Mathlib.Omega.{arith}
 use Rattle.body.specs.declared.kind.Kind.{Kind}
 use Rattle.body.specs.Kind.{sizeOf}

@@ -1,5 +1,5 @@
 -- Two replies that are both what the definition says are one.
-use mathlib.Core.Path.{_≡_, sym, _∙_}
+use mathlib.Core.Path.{sym, _∙_}
 use Rattle.octets.specs.OneReply.{OneReply, OneWriting}
 
 pub one-reply : OneReply

@@ -1,8 +1,8 @@
 -- The promises, kept.
-use Prim.Native.Nat.{ℕ, _+_, _<_, _≤_}
-use mathlib.Core.List.{List, [], _∷_, _++_}
+use Prim.Native.Nat.{ℕ, _+_}
+use mathlib.Core.List.{List, _++_}
 use mathlib.Core.Bool.{Bool, true, false, true≢false}
-use mathlib.Core.Logic.{_⊎_, inl, inr}
+use mathlib.Core.Logic.{inl, inr}
 use mathlib.Core.Path.{_≡_, refl, sym, ap, _∙_}
 use native.Mathlib.Omega.{arith}
 use native.Mathlib.Nat.{zero-add}
@@ -10,12 +10,9 @@ use borrow.Author.Tests.{leb-true, leb-false}
 use lib.ListN.{length, take, drop}
 use lib.Seq.{take-append-seam}
 use lib.Dec.{leb}
-use Rattle.order.specs.First.{First}
 use Rattle.order.proofs.Only.{exactly}
 use Rattle.room.specs.declared.Wrote.{Wrote}
 use Rattle.room.specs.Room.{placed, wroteOf, leftOf}
-use Rattle.room.specs.Numbers.{wroteNumber}
-use Rattle.fields.specs.declared.kind.Kind.{Kind}
 use Rattle.fields.specs.declared.Message.{Message}
 use Rattle.elements.specs.declared.Read.{Read}
 use Rattle.fields.specs.Kind.{kindOf}
@@ -23,7 +20,7 @@ use Rattle.elements.specs.Elements.{then, elements}
 use Rattle.elements.specs.Meaning.{takenOf}
 use Rattle.message.specs.Reading.{headedOf, readOf, userUserOf}
 use Rattle.writer.specs.Writing.{messageOctets, messageFits}
-use Rattle.octets.specs.Promises.{readRows, Reads, WholeElement, InRange, answerOf, bufferOf, writeRows, Write, Writes, Back, RoundTrip, Alike, Edges}
+use Rattle.octets.specs.Promises.{readRows, Reads, WholeElement, answerOf, bufferOf, writeRows, Write, Writes, Back, RoundTrip, Alike, Edges}
 use Rattle.octets.proofs.Table.{read-rows}
 use Rattle.octets.proofs.Whole.{whole-element}
 use Rattle.octets.proofs.Range.{in-range, range-fits}

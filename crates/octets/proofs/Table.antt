@@ -1,8 +1,8 @@
 -- The reader's number is that of the first row that applies.
 use Prim.Native.Nat.{ℕ, zero, suc, _+_, _<_, _≤_}
-use mathlib.Core.List.{List, [], _∷_, _++_}
+use mathlib.Core.List.{List, [], _∷_}
 use mathlib.Core.Bool.{Bool, true, false, cond, true≢false}
-use mathlib.Core.Logic.{_⊎_, inl, inr}
+use mathlib.Core.Logic.{inl, inr}
 use mathlib.Core.Path.{_≡_, refl, sym, ap, _∙_}
 use native.Mathlib.Omega.{arith}
 use borrow.Author.Tests.{ltb-true, ltb-false, leb-true, leb-false, eqb-true, eqb-false}
@@ -10,14 +10,13 @@ use lib.ListN.{length, getD, take, drop, take-append-drop}
 use lib.Seq.{length-take-le}
 use lib.Dec.{ltb, leb, eqb}
 use Rattle.order.specs.First.{Rows, end, row, First}
-use Rattle.fields.specs.declared.kind.Kind.{Kind}
 use Rattle.fields.specs.declared.kind.Typed.{Typed}
 use Rattle.fields.specs.declared.Width.{Width}
 use Rattle.fields.specs.declared.Header.{Header}
 use Rattle.elements.specs.declared.Fault.{Fault}
 use Rattle.elements.specs.declared.Read.{Read}
 use Rattle.fields.specs.Kind.{kindOf}
-use Rattle.elements.specs.Elements.{Element, element, Split, cut, whole, then, elements}
+use Rattle.elements.specs.Elements.{Element, Split, cut, whole, then, elements}
 use Rattle.elements.specs.Meaning.{takenOf}
 use Rattle.message.specs.Reading.{widthOf, headerOf, typedOf, headedOf, readOf}
 use Rattle.elements.specs.Numbers.{faultNumber, readNumber}

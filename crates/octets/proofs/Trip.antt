@@ -7,13 +7,12 @@ use mathlib.Core.Path.{_≡_, refl, sym, ap, _∙_}
 use native.Mathlib.Omega.{arith}
 use native.Mathlib.Numerals.{add-two}
 use borrow.Author.Tests.{ltb-true, le-leb, lt-leb, le-ltb}
-use lib.ListN.{length, getD, take, drop, length-append}
+use lib.ListN.{length, length-append}
 use lib.Seq.{take-length, drop-at}
 use lib.Dec.{leb}
 use Rattle.cause.specs.declared.Cause.{Cause}
 use Rattle.component.specs.declared.facility.Component.{Component}
-use Rattle.cause.specs.Cause.{causeOf}
-use Rattle.component.specs.Facility.{facilityOf, componentFits, bodyOf, facilityOctets}
+use Rattle.component.specs.Facility.{componentFits, bodyOf, facilityOctets}
 use Rattle.component.proofs.Back.{facility-back, cause-back}
 use Rattle.fields.specs.declared.kind.Kind.{Kind}
 use Rattle.fields.specs.declared.kind.Typed.{Typed}
@@ -30,16 +29,16 @@ use Rattle.fields.specs.Kind.{kindOf, kindOctet}
 use Rattle.elements.specs.Elements.{element, elements, counted}
 use Rattle.fields.specs.Found.{moreIn, levelIn, singleOf}
 use Rattle.elements.specs.Meaning.{takenOf}
-use Rattle.message.specs.Reading.{widthOf, headerOf, readOf, partOf, userUserOf}
+use Rattle.message.specs.Reading.{readOf, partOf, userUserOf}
 use Rattle.fields.specs.Found.{oneMore, causeSeen}
 use Rattle.elements.specs.Scan.{Adds, takenWith}
-use Rattle.writer.specs.Writing.{topOf, referenceOctets, headerOctets, headerSize, singleOctets, causesOctets, facilitiesOctets, frontOctets, messageOctets, referenceFits, plainFits, moreFits, singleFits, causesFit, facilitiesFit, userFits, messageFits}
+use Rattle.writer.specs.Writing.{topOf, headerOctets, headerSize, singleOctets, causesOctets, facilitiesOctets, frontOctets, messageOctets, referenceFits, plainFits, moreFits, singleFits, causesFit, facilitiesFit, messageFits}
 use Rattle.octets.specs.Promises.{UserElement, placeFor}
-use Rattle.elements.proofs.Splitting.{alone, lengthy, none-left}
+use Rattle.elements.proofs.Splitting.{alone, lengthy}
 use Rattle.elements.proofs.Noting.{adds-cause, adds-facility, adds-place, adds-single}
 use Rattle.elements.proofs.Turns.{nothing, goingOn, at-first, at-last, notes}
 use Rattle.message.proofs.Heading.{headed-known}
-use Rattle.writer.proofs.Ranges.{both, Fits, fits, Small, small, front-is, message-is, header-size}
+use Rattle.writer.proofs.Ranges.{both, fits, small, front-is, message-is}
 use Rattle.octets.proofs.Range.{user-in}
 
 -- THE HEADER

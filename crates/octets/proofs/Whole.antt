@@ -1,11 +1,11 @@
 -- The user-user element that is given back is whole.
 use Prim.Native.Nat.{ℕ, zero, suc, _+_, _-_, _<_, _≤_}
 use mathlib.Core.List.{List, [], _∷_}
-use mathlib.Core.Bool.{Bool, true, false, cond}
+use mathlib.Core.Bool.{Bool, true, false}
 use mathlib.Core.Path.{_≡_, refl, sym, ap, _∙_}
 use native.Mathlib.Omega.{arith}
 use native.Mathlib.Numerals.{add-one}
-use borrow.Author.Tests.{ltb-false, leb-true, leb-false, eqb-true, le-leb}
+use borrow.Author.Tests.{leb-true, leb-false, eqb-true, le-leb}
 use lib.ListN.{length, getD, take, drop, length-drop}
 use lib.Seq.{length-take-le, drop-drop, getD-drop}
 use lib.Dec.{ltb, leb, eqb}
@@ -18,7 +18,7 @@ use Rattle.fields.specs.Kind.{kindOf}
 use Rattle.elements.specs.Elements.{element, Split, cut, whole, then, elements, locking, shifting, counted}
 use Rattle.elements.specs.Elements as el
 use Rattle.elements.specs.Meaning.{firstPlace, readingOf, takenOf}
-use Rattle.message.specs.Reading.{widthOf, headerOf, typedOf, headedOf, readOf, placeIn, partOf, userUserOf}
+use Rattle.message.specs.Reading.{widthOf, headerOf, typedOf, headedOf, readOf, placeIn, userUserOf}
 use Rattle.octets.specs.Promises as promise
 use Rattle.elements.proofs.Splitting.{short}
 use Rattle.octets.proofs.Cases.{by-cond}

@@ -1,7 +1,7 @@
 -- A table names one number only, so it is enough to find it.
 use Prim.Native.Nat.{ℕ}
-use mathlib.Core.Path.{_≡_, refl, sym, _∙_}
-use mathlib.Core.Logic.{_⊎_, inl, inr}
+use mathlib.Core.Path.{_≡_, sym, _∙_}
+use mathlib.Core.Logic.{inl, inr}
 use Rattle.order.specs.First.{Rows, end, row, First, Exactly}
 
 pub only : (rows : Rows) (m n : ℕ) → First rows m → First rows n → m ≡ n

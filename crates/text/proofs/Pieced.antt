@@ -1,14 +1,13 @@
 -- A piece after a piece.
 use Prim.Native.Nat.{ℕ, _+_, _-_, _<_, _≤_}
-use mathlib.Core.List.{List, [], _++_, append-assoc}
+use mathlib.Core.List.{List, [], _++_}
 use mathlib.Core.Bool.{Bool, true, false, cond}
 use mathlib.Core.Path.{_≡_, refl, ap, _∙_}
 use native.Mathlib.Omega.{arith}
-use native.Mathlib.Nat.{add-assoc}
 use borrow.Author.Tests.{le-leb, leb-true, leb-false}
 use lib.Dec.{leb}
-use lib.ListN.{length, take, drop, length-append, length-drop}
-use lib.Seq.{length-take-le, take-at, drop-append-add, drop-drop, paste-zero, take-append-seam}
+use lib.ListN.{length, take, drop, length-append}
+use lib.Seq.{paste-zero, take-append-seam}
 use Rattle.room.specs.declared.Bar.{Bar}
 use Rattle.room.specs.declared.Wrote.{Wrote}
 use Rattle.room.specs.Room.{placed, wroteOf, leftOf, Written}

@@ -1,15 +1,14 @@
 -- The promises on records, kept.
-use Prim.Native.Nat.{ℕ, _+_, _-_, _*_, _/_, _%_, _<_, _≤_}
-use mathlib.Core.List.{List, [], _∷_, _++_, append-assoc}
-use mathlib.Core.Bool.{Bool, true, false, cond, not, _&&_, true≢false}
-use mathlib.Core.Logic.{_⊎_, inl, inr, ⊎-elim}
-use mathlib.Core.Path.{_≡_, refl, sym, ap, _∙_}
+use Prim.Native.Nat.{ℕ, _≤_}
+use mathlib.Core.List.{List}
+use mathlib.Core.Bool.{Bool, true, false, cond, true≢false}
+use mathlib.Core.Logic.{inl, inr}
+use mathlib.Core.Path.{_≡_, refl, sym, _∙_}
 use native.Mathlib.Omega.{arith}
-use borrow.Author.Tests.{ltb-true, ltb-false, le-ltb, le-leb, eqb-true, eqb-false, ne-eqb, not-true}
-use lib.ListN.{length, getD, take, drop, replicate, length-append, length-replicate, getD-replicate}
-use lib.Seq.{getD-append-add, take-append-seam}
-use lib.Dec.{ltb, leb, eqb}
-use Rattle.order.specs.First.{row, end, First}
+use borrow.Author.Tests.{ltb-true, ltb-false, eqb-true, eqb-false}
+use lib.ListN.{length, getD}
+use lib.Dec.{ltb, eqb}
+use Rattle.order.specs.First.{First}
 use Rattle.order.proofs.Only.{exactly}
 use Rattle.body.specs.declared.kind.Kind.{Kind}
 use Rattle.body.specs.declared.kind.Named.{Named}
@@ -17,7 +16,7 @@ use Rattle.trace.specs.declared.reading.Fault.{Fault}
 use Rattle.trace.specs.declared.reading.Record.{Record}
 use Rattle.body.specs.Kind.{kindOf, sizeOf}
 use Rattle.trace.specs.Reading.{rangedOf, entryOf, namedOf, recordOf}
-use Rattle.trace.specs.Promises.{recordNumber, InRange, Short, OutOfRange, recordRows, Records}
+use Rattle.trace.specs.Promises.{recordNumber, Short, recordRows, Records}
 use Rattle.trace.proofs.Ranged.{in-range, ranged}
 
 -- RECORDS, by what is known of the trace's front

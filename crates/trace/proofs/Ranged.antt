@@ -1,11 +1,11 @@
 -- The reader's test of a record and what the paper says is in range are one.
 use Prim.Native.Nat.{ℕ, zero, suc, _+_, _-_, _<_, _≤_}
 use mathlib.Core.List.{List, [], _∷_}
-use mathlib.Core.Bool.{Bool, true, false, cond, _&&_, true≢false}
-use mathlib.Core.Logic.{_⊎_, inl, inr, ⊎-elim}
+use mathlib.Core.Bool.{Bool, true, false, cond, _&&_}
+use mathlib.Core.Logic.{inl, inr, ⊎-elim}
 use mathlib.Core.Path.{_≡_, refl, sym, ap, _∙_}
 use native.Mathlib.Omega.{arith}
-use borrow.Author.Tests.{ltb-false, leb-true, le-leb, eqb-true, eqb-false, le-ltb, eq-eqb, ne-eqb}
+use borrow.Author.Tests.{ltb-false, leb-true, le-leb, eqb-true, le-ltb, eq-eqb, ne-eqb}
 use lib.ListN.{length, getD, take, drop, length-take, length-drop}
 use lib.Seq.{getD-take, getD-drop, length-take-le}
 use lib.Dec.{ltb, leb, eqb}
@@ -13,7 +13,7 @@ use Rattle.body.specs.declared.kind.Kind.{Kind}
 use Rattle.body.specs.Kind.{sizeOf}
 use Rattle.body.specs.Field.{blankOf, fieldFitsOf}
 use Rattle.trace.specs.Reading.{threeFitOf, fieldAtOf, setupRangedOf, answeringRangedOf, informationRangedOf, facilityRangedOf, disconnectRangedOf, rangedOf}
-use Rattle.trace.specs.Promises.{Zeros, Held, Field, Three, InRange}
+use Rattle.trace.specs.Promises.{Zeros, Field, Three, InRange}
 use Rattle.trace.proofs.Tests.{both, if-so, if-not}
 
 -- zeros, one by one

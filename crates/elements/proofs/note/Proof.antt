@@ -1,7 +1,6 @@
 use native.Mathlib.Omega.{arith}
 use Rattle.elements.proofs.Splitting.{counts}
 use Rattle.elements.proofs.Noting.{adds-cause, adds-facility, adds-place, adds-single}
-use borrow.Author.Tests.{ne-eqb}
 use borrow.Author.Needs.{needs}
 use Rattle.elements.proofs.note.Statement.{statement}
 use Rattle.elements.proofs.note.Tie as tie

@@ -1,8 +1,6 @@
-use mathlib.Core.Path.{_≡_, sym, _∙_}
+use mathlib.Core.Path.{sym, _∙_}
 use native.Mathlib.Omega.{arith}
 use Rattle.message.proofs.Heading.{headed-short, headed-unknown, headed-known}
-use Rattle.message.specs.Reading.{headedOf}
-use borrow.Author.Tests.{le-ltb, lt-ltb}
 use borrow.Author.Needs.{needs}
 use Rattle.message.proofs.reader.headed.Statement.{statement}
 use Rattle.message.proofs.reader.headed.Tie as tie

@@ -1,7 +1,6 @@
 use lib.ListN.{length}
-use Prim.Native.Nat.{ℕ, _+_, _-_, _<_, _≤_}
-use mathlib.Core.Path.{_≡_, refl}
-use native.Mathlib.Omega.{arith}
+use Prim.Native.Nat.{_+_}
+use mathlib.Core.Path.{refl}
 use borrow.Author.Tests.{le-leb, lt-leb}
 use Rattle.message.proofs.Lying.{outside, beyond, inside, size}
 use borrow.Author.Needs.{needs}

@@ -1,6 +1,6 @@
 use lib.ListN.{List·getD-eq-default}
 use Rattle.trace.specs.Reading.{countOf}
-use borrow.Author.Tests.{eq-eqb, le-ltb, lt-ltb, ne-eqb}
+use borrow.Author.Tests.{eq-eqb, ne-eqb}
 use borrow.Author.Needs.{needs}
 use Rattle.trace.proofs.reading.count.Statement.{statement}
 use Rattle.trace.proofs.reading.count.Tie as tie

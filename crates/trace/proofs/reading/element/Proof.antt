@@ -4,7 +4,6 @@ use mathlib.Core.Path.{refl}
 use borrow.Author.Tests.{le-leb, lt-leb}
 use Rattle.trace.specs.Reading.{elementOf}
 use Rattle.trace.proofs.Lying.{outside, beyond, inside, size}
-use borrow.Author.Tests.{le-ltb, lt-ltb}
 use borrow.Author.Needs.{needs}
 use Rattle.trace.proofs.reading.element.Statement.{statement}
 use Rattle.trace.proofs.reading.element.Tie as tie

@@ -1,7 +1,6 @@
 use mathlib.Core.Path.{sym, _∙_}
 use native.Mathlib.Omega.{arith}
 use Rattle.trace.proofs.Naming.{named-short, named-range, named-taken}
-use borrow.Author.Tests.{le-ltb, lt-ltb}
 use borrow.Author.Needs.{needs}
 use Rattle.trace.proofs.reading.read_kind.Statement.{statement}
 use Rattle.trace.proofs.reading.read_kind.Tie as tie
