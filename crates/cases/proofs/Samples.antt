@@ -23,7 +23,7 @@ use Rattle.fields.specs.Kind.{kindOf}
 use Rattle.fields.specs.Found.{singleOf}
 use Rattle.elements.specs.Meaning.{firstSingle, firstCause, firstPlace, components, readingOf, takenOf}
 use Rattle.message.specs.Reading.{headedOf, readOf, userUserOf}
-use Rattle.writer.specs.Writing.{frontOctets, messageOctets, userFits, messageFits}
+use Rattle.fitting.specs.Writing.{frontOctets, messageOctets, userFits, messageFits}
 use Rattle.cases.specs.Samples.{Samples}
 
 pub samples : Samples

@@ -19,7 +19,7 @@ use Rattle.fields.specs.Kind.{kindOf}
 use Rattle.elements.specs.Elements.{then, elements}
 use Rattle.elements.specs.Meaning.{takenOf}
 use Rattle.message.specs.Reading.{headedOf, readOf, userUserOf}
-use Rattle.writer.specs.Writing.{messageOctets, messageFits}
+use Rattle.fitting.specs.Writing.{messageOctets, messageFits}
 use Rattle.octets.specs.Promises.{readRows, Reads, WholeElement, answerOf, bufferOf, writeRows, Write, Writes, Back, RoundTrip, Alike, Edges}
 use Rattle.octets.proofs.Table.{read-rows}
 use Rattle.octets.proofs.Whole.{whole-element}

@@ -15,9 +15,9 @@ use Rattle.fields.specs.declared.Width.{Width}
 use Rattle.fields.specs.declared.Single.{Single}
 use Rattle.fields.specs.declared.Facilities.{Facilities}
 use Rattle.fields.specs.declared.Message.{Message}
-use Rattle.writer.specs.Writing.{referenceFits, plainFits, moreFits, levelFits, singleFits, causesFit, facilitiesFit, userFits, messageFits}
+use Rattle.fitting.specs.Writing.{referenceFits, plainFits, moreFits, levelFits, singleFits, causesFit, facilitiesFit, userFits, messageFits}
 use Rattle.octets.specs.Promises.{highest, SingleIn, CauseIn, FacilitiesIn, UserElement, InRange}
-use Rattle.writer.proofs.Ranges.{both, fits}
+use Rattle.fitting.proofs.Ranges.{both, fits}
 
 -- a chain of tests that ends well
 if-so : (a b : Bool) → cond a b false ≡ true → (a ≡ true) × (b ≡ true)

@@ -32,7 +32,7 @@ use Rattle.elements.specs.Meaning.{takenOf}
 use Rattle.message.specs.Reading.{readOf, partOf, userUserOf}
 use Rattle.fields.specs.Found.{oneMore, causeSeen}
 use Rattle.elements.specs.Scan.{Adds, takenWith}
-use Rattle.writer.specs.Writing.{topOf, headerOctets, headerSize, singleOctets, causesOctets, facilitiesOctets, frontOctets, messageOctets, referenceFits, plainFits, moreFits, singleFits, causesFit, facilitiesFit, messageFits}
+use Rattle.fitting.specs.Writing.{topOf, headerOctets, headerSize, singleOctets, causesOctets, facilitiesOctets, frontOctets, messageOctets, referenceFits, plainFits, moreFits, singleFits, causesFit, facilitiesFit, messageFits}
 use Rattle.octets.specs.Promises.{UserElement, placeFor}
 use Rattle.elements.proofs.Splitting.{alone, lengthy}
 use Rattle.elements.proofs.Noting.{adds-cause, adds-facility, adds-place, adds-single}

@@ -21,7 +21,7 @@ use Rattle.fields.specs.declared.Place.{Place}
 use Rattle.elements.specs.declared.Read.{Read}
 use Rattle.fields.specs.Kind.{kindOf}
 use Rattle.message.specs.Reading.{readOf, placeIn, userUserOf}
-use Rattle.writer.specs.Writing.{frontOctets, messageOctets, messageFits}
+use Rattle.fitting.specs.Writing.{frontOctets, messageOctets, messageFits}
 use Rattle.elements.specs.Numbers.{readNumber}
 
 -- READS. Octets that are whole elements, one after another.

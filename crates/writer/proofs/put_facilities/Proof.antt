@@ -3,7 +3,7 @@ use Rattle.component.specs.Facility.{componentFits}
 use native.Mathlib.Omega.{arith}
 use lib.ListN.{length-append}
 use Rattle.room.proofs.Pieces.{no-put, puts}
-use Rattle.writer.proofs.Ranges.{both}
+use Rattle.fitting.proofs.Ranges.{both}
 use borrow.Author.Needs.{needs}
 use Rattle.writer.proofs.put_facilities.Statement.{statement}
 use Rattle.writer.proofs.put_facilities.Tie as tie

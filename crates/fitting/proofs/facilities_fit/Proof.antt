@@ -1,8 +1,8 @@
 use borrow.Author.Needs.{needs}
-use Rattle.writer.proofs.facilities_fit.Statement.{statement}
-use Rattle.writer.proofs.facilities_fit.Tie as tie
-use Rattle.writer.proofs.facilities_fit.Reads as reads
-use Rattle.writer.proofs.facilities_fit.Lts as lts
+use Rattle.fitting.proofs.facilities_fit.Statement.{statement}
+use Rattle.fitting.proofs.facilities_fit.Tie as tie
+use Rattle.fitting.proofs.facilities_fit.Reads as reads
+use Rattle.fitting.proofs.facilities_fit.Lts as lts
 use Rattle.component.proofs.facility.component_fits.Reads as component-fits-reads
 
 enum-told : tie.Need-enum-told

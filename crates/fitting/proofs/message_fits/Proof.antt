@@ -1,14 +1,14 @@
-use Rattle.writer.specs.Writing.{messageFits}
+use Rattle.fitting.specs.Writing.{messageFits}
 use borrow.Author.Needs.{needs}
-use Rattle.writer.proofs.message_fits.Statement.{statement}
-use Rattle.writer.proofs.message_fits.Tie as tie
-use Rattle.writer.proofs.message_fits.Reads as reads
-use Rattle.writer.proofs.message_fits.Lts as lts
-use Rattle.writer.proofs.causes_fit.Reads as causes-fit-reads
-use Rattle.writer.proofs.facilities_fit.Reads as facilities-fit-reads
-use Rattle.writer.proofs.reference_fits.Reads as reference-fits-reads
-use Rattle.writer.proofs.single_fits.Reads as single-fits-reads
-use Rattle.writer.proofs.user_fits.Reads as user-fits-reads
+use Rattle.fitting.proofs.message_fits.Statement.{statement}
+use Rattle.fitting.proofs.message_fits.Tie as tie
+use Rattle.fitting.proofs.message_fits.Reads as reads
+use Rattle.fitting.proofs.message_fits.Lts as lts
+use Rattle.fitting.proofs.causes_fit.Reads as causes-fit-reads
+use Rattle.fitting.proofs.facilities_fit.Reads as facilities-fit-reads
+use Rattle.fitting.proofs.reference_fits.Reads as reference-fits-reads
+use Rattle.fitting.proofs.single_fits.Reads as single-fits-reads
+use Rattle.fitting.proofs.user_fits.Reads as user-fits-reads
 
 reference-fits-requires : tie.Need-reference-fits-requires
 reference-fits-requires c κs = search needs

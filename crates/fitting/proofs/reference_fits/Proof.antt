@@ -1,8 +1,8 @@
 use borrow.Author.Needs.{needs}
-use Rattle.writer.proofs.reference_fits.Statement.{statement}
-use Rattle.writer.proofs.reference_fits.Tie as tie
-use Rattle.writer.proofs.reference_fits.Reads as reads
-use Rattle.writer.proofs.reference_fits.Lts as lts
+use Rattle.fitting.proofs.reference_fits.Statement.{statement}
+use Rattle.fitting.proofs.reference_fits.Tie as tie
+use Rattle.fitting.proofs.reference_fits.Reads as reads
+use Rattle.fitting.proofs.reference_fits.Lts as lts
 
 enum-told : tie.Need-enum-told
 enum-told c = search needs

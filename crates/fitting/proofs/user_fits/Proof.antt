@@ -1,12 +1,12 @@
-use Rattle.writer.proofs.Ranges.{last-test}
-use Rattle.writer.specs.Writing.{userFits}
+use Rattle.fitting.proofs.Ranges.{last-test}
+use Rattle.fitting.specs.Writing.{userFits}
 use borrow.Author.Tests.{eq-eqb, le-ltb, lt-ltb, ne-eqb}
 use borrow.Author.Needs.{needs}
-use Rattle.writer.proofs.user_fits.Statement.{statement}
-use Rattle.writer.proofs.user_fits.Tie as tie
-use Rattle.writer.proofs.user_fits.Reads as reads
-use Rattle.writer.proofs.user_fits.Lts as lts
-use Rattle.writer.proofs.wide.Reads as wide-reads
+use Rattle.fitting.proofs.user_fits.Statement.{statement}
+use Rattle.fitting.proofs.user_fits.Tie as tie
+use Rattle.fitting.proofs.user_fits.Reads as reads
+use Rattle.fitting.proofs.user_fits.Lts as lts
+use Rattle.fitting.proofs.wide.Reads as wide-reads
 
 returns : tie.Need-returns
 unfolding userFits

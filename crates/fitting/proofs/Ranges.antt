@@ -16,7 +16,7 @@ use Rattle.fields.specs.declared.Single.{Single}
 use Rattle.fields.specs.declared.Facilities.{Facilities}
 use Rattle.fields.specs.declared.Message.{Message}
 use Rattle.fields.specs.Kind.{kindOctet}
-use Rattle.writer.specs.Writing.{referenceOctets, headerOctets, headerSize, singleOctets, causesOctets, facilitiesOctets, frontOctets, messageOctets, referenceFits, singleFits, causesFit, facilitiesFit, userFits, messageFits}
+use Rattle.fitting.specs.Writing.{referenceOctets, headerOctets, headerSize, singleOctets, causesOctets, facilitiesOctets, frontOctets, messageOctets, referenceFits, singleFits, causesFit, facilitiesFit, userFits, messageFits}
 
 -- two tests that both hold
 pub both : (a b : Bool) → a && b ≡ true → (a ≡ true) × (b ≡ true)

@@ -1,8 +1,8 @@
 use borrow.Author.Needs.{needs}
-use Rattle.writer.proofs.causes_fit.Statement.{statement}
-use Rattle.writer.proofs.causes_fit.Tie as tie
-use Rattle.writer.proofs.causes_fit.Reads as reads
-use Rattle.writer.proofs.causes_fit.Lts as lts
+use Rattle.fitting.proofs.causes_fit.Statement.{statement}
+use Rattle.fitting.proofs.causes_fit.Tie as tie
+use Rattle.fitting.proofs.causes_fit.Reads as reads
+use Rattle.fitting.proofs.causes_fit.Lts as lts
 
 enum-told : tie.Need-enum-told
 enum-told c = search needs
