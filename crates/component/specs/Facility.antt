@@ -17,6 +17,10 @@ pub data Slot : Type 0 where
   is : ℕ → Slot
   blank : Slot
 
+-- a form as a row of octets: its blanks are 0
+abbrev pub slotOf : ℕ → Slot
+slotOf x = cond (eqb x 0) blank (is x)
+
 -- the bodies of the three components: profile 91; the component's tag and length; the invoke number; then for a request
 -- operation value 1, the service and whether it is preferred, and for an error its value
 abbrev pub invokeForm : List Slot

@@ -1,7 +1,12 @@
 // The Facility element: 1C, its length, and a body that is one component.
 ghost use mathlib.Core.Path.{_≡_};
+ghost use mathlib.Core.Bool.{cond, false};
+ghost use mathlib.Core.List.{map};
+ghost use Prim.Native.Nat.{_≤_};
+ghost use lib.ListN.{length, getD};
+ghost use lib.Dec.{ltb};
 ghost use Rattle.room.specs.Room.{Written};
-ghost use Rattle.component.specs.Facility.{serviceOf, wishOf, refusalOf, invokeSays, errorSays, invokeOf, resultOf, errorOf, facilityOf, serviceOctet, wishOctet, refusalOctet, componentFits, facilityOctets};
+ghost use Rattle.component.specs.Facility.{slotOf, spells, serviceOf, wishOf, refusalOf, invokeSays, errorSays, invokeOf, resultOf, errorOf, facilityOf, serviceOctet, wishOctet, refusalOctet, componentFits, facilityOctets};
 use room::Bar;
 use room::Wrote;
 use room::write_octets;
@@ -97,52 +102,62 @@ fn rejected(id: u8, error: u8) -> Facility
     }
 }
 
+// Whether a body has a form: as many octets, and each that the form gives. A 0 in the form is an octet to be filled in.
+fn spelt(b: &[u8], form: &[u8]) -> bool
+    ensures { λ t. ⌜ t ≡ spells (map slotOf (now (form .entry))) (now (b .entry)) ⌝ }
+{
+    if b.len() != form.len() {
+        return false;
+    }
+    let mut same = true;
+    let mut i = 0;
+    while i < form.len() {
+        let x = form[i];
+        same = same & ((x == 0) | (b[i] == x));
+        i += 1;
+    }
+    same
+}
+
+// Whether a body has a form, and an invoke number in its sixth octet.
+fn numbered(b: &[u8], form: &[u8]) -> bool
+    requires { ⌜ 6 ≤ length (now form) ⌝ }
+    ensures { λ t. ⌜ t ≡ cond (spells (map slotOf (now (form .entry))) (now (b .entry))) (ltb (getD (now (b .entry)) 5 0) 128) false ⌝ }
+{
+    if spelt(b, form) { b[5] < 128 } else { false }
+}
+
 fn invoke_in(b: &[u8]) -> Facility
     ensures { λ r. ⌜ r ≡ invokeOf (now (b .entry)) ⌝ }
 {
-    if b.len() != 17 {
-        return Facility::Absent;
+    if numbered(
+        b,
+        b"\x91\xA1\x0E\x02\x01\x00\x02\x01\x01\x30\x06\x81\x01\x00\x82\x01\x00",
+    ) {
+        asked(b[5], b[13], b[16])
+    } else {
+        Facility::Absent
     }
-    let head = (b[0] == 0x91) & (b[1] == 0xA1) & (b[2] == 14) & (b[3] == 2) & (b[4] == 1);
-    let operation = head & (b[6] == 2) & (b[7] == 1) & (b[8] == 1) & (b[9] == 0x30) & (b[10] == 6);
-    let formed = operation & (b[11] == 0x81) & (b[12] == 1) & (b[14] == 0x82) & (b[15] == 1);
-    if formed {
-        if b[5] < 128 {
-            return asked(b[5], b[13], b[16]);
-        }
-    }
-    Facility::Absent
 }
 
 fn result_in(b: &[u8]) -> Facility
     ensures { λ r. ⌜ r ≡ resultOf (now (b .entry)) ⌝ }
 {
-    if b.len() != 6 {
-        return Facility::Absent;
+    if numbered(b, b"\x91\xA2\x03\x02\x01\x00") {
+        Facility::Says(Component::Accepted(b[5]))
+    } else {
+        Facility::Absent
     }
-    let formed = (b[0] == 0x91) & (b[1] == 0xA2) & (b[2] == 3) & (b[3] == 2) & (b[4] == 1);
-    if formed {
-        if b[5] < 128 {
-            return Facility::Says(Component::Accepted(b[5]));
-        }
-    }
-    Facility::Absent
 }
 
 fn error_in(b: &[u8]) -> Facility
     ensures { λ r. ⌜ r ≡ errorOf (now (b .entry)) ⌝ }
 {
-    if b.len() != 9 {
-        return Facility::Absent;
+    if numbered(b, b"\x91\xA3\x06\x02\x01\x00\x02\x01\x00") {
+        rejected(b[5], b[8])
+    } else {
+        Facility::Absent
     }
-    let head = (b[0] == 0x91) & (b[1] == 0xA3) & (b[2] == 6) & (b[3] == 2) & (b[4] == 1);
-    let formed = head & (b[6] == 2) & (b[7] == 1);
-    if formed {
-        if b[5] < 128 {
-            return rejected(b[5], b[8]);
-        }
-    }
-    Facility::Absent
 }
 
 // What the body of a Facility element says, by the form that it has.

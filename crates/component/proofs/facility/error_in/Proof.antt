@@ -1,81 +1,48 @@
-use Rattle.component.specs.Facility.{errorOf}
-use Rattle.component.specs.Facility.{readAs}
-use Rattle.component.specs.Facility.{spells}
-use Rattle.component.specs.Facility.{size}
-use Rattle.component.specs.Facility.{stand}
-use borrow.Author.Tests.{eq-eqb, le-ltb, lt-ltb, ne-eqb}
+use mathlib.Core.Path.{_∙_}
+use native.Mathlib.Omega.{arith}
 use borrow.Author.Needs.{needs}
+use Rattle.component.specs.Facility.{errorForm, size, errorOf}
+use Rattle.component.proofs.Forms.{read, not-read, read-long}
 use Rattle.component.proofs.facility.error_in.Statement.{statement}
 use Rattle.component.proofs.facility.error_in.Tie as tie
 use Rattle.component.proofs.facility.error_in.Reads as reads
 use Rattle.component.proofs.facility.error_in.Lts as lts
+use Rattle.component.proofs.facility.numbered.Reads as numbered-reads
 use Rattle.component.proofs.facility.rejected.Reads as rejected-reads
 
-returns : tie.Need-returns
-unfolding errorOf readAs spells size stand
-returns c = simp (ne-eqb _ _ (c .if1 .taken))
+slice-aggregate-numbered : tie.Need-slice-aggregate-numbered
+slice-aggregate-numbered c = search needs
 
-shared-slice-read-head : tie.Need-shared-slice-read-head
-shared-slice-read-head c = search needs
-
-shared-slice-read-head-2 : tie.Need-shared-slice-read-head-2
-shared-slice-read-head-2 c = search needs
-
-shared-slice-read-head-3 : tie.Need-shared-slice-read-head-3
-shared-slice-read-head-3 c = search needs
-
-shared-slice-read-head-4 : tie.Need-shared-slice-read-head-4
-shared-slice-read-head-4 c = search needs
-
-shared-slice-read-head-5 : tie.Need-shared-slice-read-head-5
-shared-slice-read-head-5 c = search needs
-
-shared-slice-read-formed : tie.Need-shared-slice-read-formed
-shared-slice-read-formed c = search needs
-
-shared-slice-read-formed-2 : tie.Need-shared-slice-read-formed-2
-shared-slice-read-formed-2 c = search needs
-
-shared-slice-read-if3 : tie.Need-shared-slice-read-if3
-shared-slice-read-if3 c = search needs
+numbered-requires : tie.Need-numbered-requires
+numbered-requires c κs = search needs
 
 shared-slice-read-rejected : tie.Need-shared-slice-read-rejected
-shared-slice-read-rejected c = search needs
+unfolding size
+shared-slice-read-rejected c = let l = read-long errorForm (c .before .before .before .before .before .args .b .now) (c .before .before .numbered .ensures) (c .before .if1 .taken) in omega arith
 
 shared-slice-read-rejected-2 : tie.Need-shared-slice-read-rejected-2
-shared-slice-read-rejected-2 c = search needs
+unfolding size
+shared-slice-read-rejected-2 c = let l = read-long errorForm (c .before .before .before .before .before .before .args .b .now) (c .before .before .before .numbered .ensures) (c .before .before .if1 .taken) in omega arith
 
 rejected-requires : tie.Need-rejected-requires
 rejected-requires c κs = search needs
 
+returns : tie.Need-returns
+unfolding errorOf
+returns c = c .rejected .ensures ∙ read errorForm (c .before .before .before .before .before .before .before .args .b .now) (c .before .before .before .before .numbered .ensures) (c .before .before .before .if1 .taken) _
+
 returns-2 : tie.Need-returns-2
-unfolding errorOf readAs spells size stand
-returns-2 c = simp (c .rejected .ensures, lt-ltb _ _ (c .before .before .before .if3 .taken), c .before .before .before .before .before .if2 .taken, eq-eqb _ _ (c .before .before .before .before .before .before .before .before .before .before .before .before .before .if1 .left))
-
-returns-3 : tie.Need-returns-3
-unfolding errorOf readAs spells size stand
-returns-3 c = simp (le-ltb _ _ (c .if3 .left), c .before .before .if2 .taken, eq-eqb _ _ (c .before .before .before .before .before .before .before .before .before .before .if1 .left))
-
-returns-4 : tie.Need-returns-4
-unfolding errorOf readAs spells size stand
-returns-4 c = simp (c .if2 .left, eq-eqb _ _ (c .before .before .before .before .before .before .before .before .if1 .left))
+unfolding errorOf
+returns-2 c = not-read errorForm (c .before .before .before .before .args .b .now) (c .before .numbered .ensures) (c .if1 .left) _
 
 pub error-in-spec : {M : Type 1} → statement M
 error-in-spec =
     tie.close
     (tie.spec
-    returns
-    shared-slice-read-head
-    shared-slice-read-head-2
-    shared-slice-read-head-3
-    shared-slice-read-head-4
-    shared-slice-read-head-5
-    shared-slice-read-formed
-    shared-slice-read-formed-2
-    shared-slice-read-if3
+    slice-aggregate-numbered
+    numbered-requires
     shared-slice-read-rejected
     shared-slice-read-rejected-2
     rejected-requires
-    returns-2
-    returns-3
-    returns-4)
+    returns
+    returns-2)
