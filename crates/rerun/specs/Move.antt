@@ -6,6 +6,8 @@ use mathlib.Core.Path.{_≡_}
 use lib.ListN.{length}
 use lib.Dec.{leb}
 use Rattle.room.specs.Room.{placed}
+use Rattle.room.specs.declared.Bar.{Bar}
+use Rattle.room.specs.declared.Wrote.{Wrote}
 use Rattle.settling.specs.declared.plan.Looked.{Looked}
 use Rattle.settling.specs.declared.plan.Put.{Put}
 use Rattle.body.specs.Kind.{sizeOf}
@@ -37,13 +39,25 @@ beginning = record { used = 0; wrote = 0; ended = false; more = true }
 abbrev pub halts : Stand → Move
 halts s = moveTo Put.Nothing (s .used) (s .wrote) false false
 
+-- a text that was written has its turn, and one that had no room has none
+abbrev pub onceWritten : Wrote → Put → ℕ → Bool → Bool → Stand → Move
+onceWritten (Wrote.Refused b) put used ended more s = halts s
+onceWritten (Wrote.To end) put used ended more s = moveTo put used end ended more
+
+-- a fault whose line has so many octets
+abbrev pub faultMove : ℕ → Stand → Move
+faultMove n s = moveTo Put.Nothing (s .used) (s .wrote + n) true false
+
 -- where the text fits, which has so many octets
 abbrev pub moveIn : Front → Looked → List ℕ → ℕ → Stand → Move
 moveIn Front.Waits l t n s = halts s
-moveIn (Front.Faulty f) l t n s = moveTo Put.Nothing (s .used) (s .wrote + n) true false
+moveIn (Front.Faulty f) l t n s = faultMove n s
 moveIn (Front.Whole e) l t n s = moveTo (plannedAt l e t .put) (s .used + sizeOf (e .kind)) (s .wrote + n) false true
 
--- the turn r, and the buffer l' that is left
-pub record Moved (explained : Bool) (f : Front) (k : Looked) (t : List ℕ) (s : Stand) (l l' : List ℕ) (r : Move) : Type 0 where
-  pub turn : r ≡ cond (leb (s .wrote + length (textIn explained f k t)) (length l)) (moveIn f k t (length (textIn explained f k t)) s) (halts s)
-  pub buffer : l' ≡ cond (leb (s .wrote + length (textIn explained f k t)) (length l)) (placed (s .wrote) (textIn explained f k t) l) l
+-- the turn r, and the buffer l' that is left, where a text is to be printed that has the turn m
+pub record Printed (text : List ℕ) (m : Move) (s : Stand) (l l' : List ℕ) (r : Move) : Type 0 where
+  pub turn : r ≡ cond (leb (s .wrote + length text) (length l)) m (halts s)
+  pub buffer : l' ≡ cond (leb (s .wrote + length text) (length l)) (placed (s .wrote) text l) l
+
+abbrev pub Moved : Bool → Front → Looked → List ℕ → Stand → List ℕ → List ℕ → Move → Type 0
+Moved explained f k t s l l' r = Printed (textIn explained f k t) (moveIn f k t (length (textIn explained f k t)) s) s l l' r

@@ -3,9 +3,12 @@ ghost use mathlib.Core.Path.{_≡_};
 ghost use mathlib.Core.Bool.{false};
 ghost use Prim.Native.Nat.{_+_, _≤_};
 ghost use lib.ListN.{length, drop};
+ghost use Rattle.body.specs.Kind.{sizeOf};
+ghost use Rattle.notices.specs.Notices.{faultLine};
+ghost use Rattle.fronts.specs.declared.Front.{Front};
 ghost use Rattle.fronts.specs.Fronts.{frontOf};
 ghost use Rattle.rerun.specs.Run.{soFar, WorkedOff};
-ghost use Rattle.rerun.specs.Move.{sizeIn, moveTo, beginning, Moved};
+ghost use Rattle.rerun.specs.Move.{sizeIn, moveTo, beginning, halts, onceWritten, faultMove, Printed, Moved};
 use body::kind::size;
 use call::Call;
 use exchange::step::commit;
@@ -21,6 +24,8 @@ use report::write_line;
 use room::Wrote;
 use settling::plan::Looked;
 use settling::plan::Put;
+use trace::reading::Entry;
+use trace::reading::Fault;
 
 // used: how many octets of the piece; wrote: how many octets of text; ended: whether a fault ended the run.
 pub struct Worked {
@@ -70,32 +75,68 @@ fn moves(put: Put, used: usize, wrote: usize, ended: bool, more: bool) -> Move
     }
 }
 
-// One turn: prints the front's line, if it fits, and only then has something put into the table.
+// A text that was written has its turn; one that had no room stops the run where it stands.
+fn once_written(w: Wrote, put: Put, used: usize, ended: bool, more: bool, s: Stand) -> Move
+    ensures { λ r. ⌜ r ≡ onceWritten w put used ended more s ⌝ }
+{
+    match w {
+        Wrote::Refused(_) => halted(s),
+        Wrote::To(end) => moves(put, used, end, ended, more),
+    }
+}
+
+fn halted(s: Stand) -> Move
+    ensures { λ r. ⌜ r ≡ halts s ⌝ }
+{
+    let i = s.used;
+    let k = s.wrote;
+    moves(Put::Nothing, i, k, false, false)
+}
+
+// A fault prints its line and ends the run.
+fn fault_turn(x: Fault, out: &mut [u8], s: Stand) -> Move
+    ensures { λ r. ⌜ Printed (faultLine x) (faultMove (length (faultLine x)) s) s (now (out .entry)) (now (out .exit)) r ⌝ }
+{
+    let i = s.used;
+    let k = s.wrote;
+    let w = write_fault(out, k, x);
+    once_written(w, Put::Nothing, i, true, false, s)
+}
+
+// A whole record prints its line, and only then has something put into the table.
+fn record_turn(
+    piece: &[u8],
+    e: Entry,
+    l: Looked,
+    explained: bool,
+    out: &mut [u8],
+    s: Stand,
+) -> Move
+    requires { ⌜ s .used + sizeOf (e .kind) ≤ length (now piece) ⌝ }
+    ensures { λ r. ⌜ Moved explained (Front.Whole e) l (drop (s .used) (now (piece .entry))) s (now (out .entry)) (now (out .exit)) r ⌝ }
+{
+    let i = s.used;
+    let k = s.wrote;
+    let kind = e.kind;
+    let n = size(kind);
+    let next = i + n;
+    let p = planned(l, e, &piece[i..]);
+    let outcome = p.outcome;
+    let put = p.put;
+    let columns = columns_of(e, outcome);
+    let w = write_line(out, k, explained, columns);
+    once_written(w, put, next, false, true, s)
+}
+
+// One turn: what the front of the piece makes of the run.
 fn decide(piece: &[u8], f: Front, l: Looked, explained: bool, out: &mut [u8], s: Stand) -> Move
     requires { ⌜ s .used + sizeIn f ≤ length (now piece) ⌝ }
     ensures { λ r. ⌜ Moved explained f l (drop (s .used) (now (piece .entry))) s (now (out .entry)) (now (out .exit)) r ⌝ }
 {
-    let i = s.used;
-    let k = s.wrote;
     match f {
-        Front::Waits => moves(Put::Nothing, i, k, false, false),
-        Front::Faulty(x) => match write_fault(out, k, x) {
-            Wrote::Refused(_) => moves(Put::Nothing, i, k, false, false),
-            Wrote::To(end) => moves(Put::Nothing, i, end, true, false),
-        },
-        Front::Whole(e) => {
-            let kind = e.kind;
-            let n = size(kind);
-            let next = i + n;
-            let p = planned(l, e, &piece[i..]);
-            let outcome = p.outcome;
-            let put = p.put;
-            let columns = columns_of(e, outcome);
-            match write_line(out, k, explained, columns) {
-                Wrote::Refused(_) => moves(Put::Nothing, i, k, false, false),
-                Wrote::To(end) => moves(put, next, end, false, true),
-            }
-        }
+        Front::Waits => halted(s),
+        Front::Faulty(x) => fault_turn(x, out, s),
+        Front::Whole(e) => record_turn(piece, e, l, explained, out, s),
     }
 }
 

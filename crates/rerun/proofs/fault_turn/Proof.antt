@@ -1,0 +1,24 @@
+use Rattle.rerun.proofs.Moving.{prints}
+use borrow.Author.Needs.{needs}
+use Rattle.rerun.proofs.fault_turn.Statement.{statement}
+use Rattle.rerun.proofs.fault_turn.Tie as tie
+use Rattle.rerun.proofs.fault_turn.Reads as reads
+use Rattle.rerun.proofs.fault_turn.Lts as lts
+use Rattle.notices.proofs.write_fault.Reads as write-fault-reads
+use Rattle.rerun.proofs.once_written.Reads as once-written-reads
+
+write-fault-requires : tie.Need-write-fault-requires
+write-fault-requires c κs = search needs
+
+once-written-requires : tie.Need-once-written-requires
+once-written-requires c κs = search needs
+
+same-length : tie.Need-same-length
+same-length c = search needs
+
+returns : tie.Need-returns
+returns c = prints (c .before .before .before .write-fault .ensures) (c .once-written .ensures)
+
+pub fault-turn-spec : {M : Type 1} → statement M
+fault-turn-spec =
+    tie.close (tie.spec write-fault-requires once-written-requires same-length returns)
