@@ -38,7 +38,7 @@ use Rattle.elements.proofs.Splitting.{alone, lengthy}
 use Rattle.elements.proofs.Noting.{adds-cause, adds-facility, adds-place, adds-single}
 use Rattle.elements.proofs.Turns.{nothing, goingOn, at-first, at-last, notes}
 use Rattle.message.proofs.Heading.{headed-known}
-use Rattle.writer.proofs.Ranges.{both, fits, small, front-is, message-is}
+use Rattle.fitting.proofs.Ranges.{both, fits, small, front-is, message-is}
 use Rattle.octets.proofs.Range.{user-in}
 
 -- THE HEADER
