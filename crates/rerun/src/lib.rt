@@ -8,7 +8,7 @@ ghost use Rattle.notices.specs.Notices.{faultLine};
 ghost use Rattle.fronts.specs.declared.Front.{Front};
 ghost use Rattle.fronts.specs.Fronts.{frontOf};
 ghost use Rattle.rerun.specs.Run.{soFar, WorkedOff};
-ghost use Rattle.rerun.specs.Move.{sizeIn, moveTo, beginning, halts, onceWritten, faultMove, Printed, Moved};
+ghost use Rattle.rerun.specs.Move.{sizeIn, moveTo, beginning, onceWritten, faultMove, Printed, Moved};
 use body::kind::size;
 use call::Call;
 use exchange::step::commit;
@@ -79,18 +79,12 @@ fn moves(put: Put, used: usize, wrote: usize, ended: bool, more: bool) -> Move
 fn once_written(w: Wrote, put: Put, used: usize, ended: bool, more: bool, s: Stand) -> Move
     ensures { λ r. ⌜ r ≡ onceWritten w put used ended more s ⌝ }
 {
-    match w {
-        Wrote::Refused(_) => halted(s),
-        Wrote::To(end) => moves(put, used, end, ended, more),
-    }
-}
-
-fn halted(s: Stand) -> Move
-    ensures { λ r. ⌜ r ≡ halts s ⌝ }
-{
     let i = s.used;
     let k = s.wrote;
-    moves(Put::Nothing, i, k, false, false)
+    match w {
+        Wrote::Refused(_) => moves(Put::Nothing, i, k, false, false),
+        Wrote::To(end) => moves(put, used, end, ended, more),
+    }
 }
 
 // A fault prints its line and ends the run.
@@ -104,14 +98,7 @@ fn fault_turn(x: Fault, out: &mut [u8], s: Stand) -> Move
 }
 
 // A whole record prints its line, and only then has something put into the table.
-fn record_turn(
-    piece: &[u8],
-    e: Entry,
-    l: Looked,
-    explained: bool,
-    out: &mut [u8],
-    s: Stand,
-) -> Move
+fn record_turn(piece: &[u8], e: Entry, l: Looked, explained: bool, out: &mut [u8], s: Stand) -> Move
     requires { ⌜ s .used + sizeOf (e .kind) ≤ length (now piece) ⌝ }
     ensures { λ r. ⌜ Moved explained (Front.Whole e) l (drop (s .used) (now (piece .entry))) s (now (out .entry)) (now (out .exit)) r ⌝ }
 {
@@ -134,7 +121,11 @@ fn decide(piece: &[u8], f: Front, l: Looked, explained: bool, out: &mut [u8], s:
     ensures { λ r. ⌜ Moved explained f l (drop (s .used) (now (piece .entry))) s (now (out .entry)) (now (out .exit)) r ⌝ }
 {
     match f {
-        Front::Waits => halted(s),
+        Front::Waits => {
+            let i = s.used;
+            let k = s.wrote;
+            moves(Put::Nothing, i, k, false, false)
+        }
         Front::Faulty(x) => fault_turn(x, out, s),
         Front::Whole(e) => record_turn(piece, e, l, explained, out, s),
     }

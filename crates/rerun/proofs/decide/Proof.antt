@@ -6,14 +6,14 @@ use Rattle.rerun.proofs.decide.Tie as tie
 use Rattle.rerun.proofs.decide.Reads as reads
 use Rattle.rerun.proofs.decide.Lts as lts
 use Rattle.rerun.proofs.fault_turn.Reads as fault-turn-reads
-use Rattle.rerun.proofs.halted.Reads as halted-reads
+use Rattle.rerun.proofs.moves.Reads as moves-reads
 use Rattle.rerun.proofs.record_turn.Reads as record-turn-reads
 
 enum-told : tie.Need-enum-told
 enum-told c = search needs
 
-halted-requires : tie.Need-halted-requires
-halted-requires c κs = search needs
+moves-requires : tie.Need-moves-requires
+moves-requires c κs = search needs
 
 enum-known-f : tie.Need-enum-known-f
 enum-known-f c = search needs
@@ -28,7 +28,7 @@ record-turn-requires : tie.Need-record-turn-requires
 record-turn-requires c κs = rw (c .before .before .f2 .given .1) at (c .before .before .before .before .before .before .pre)
 
 returns : tie.Need-returns
-returns c = rw (c .before .enum-told .given .1) (waits _ _ (c .halted .ensures))
+returns c = rw (c .before .enum-told .given .1) (waits _ _ (c .moves .ensures))
 
 same-length : tie.Need-same-length
 same-length c = search needs
@@ -47,7 +47,7 @@ decide-spec =
     tie.close
     (tie.spec
     enum-told
-    halted-requires
+    moves-requires
     enum-known-f
     fault-turn-requires
     enum-known-f-2
