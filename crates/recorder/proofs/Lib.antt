@@ -1,3 +1,3 @@
-pub mod Zeros
+pub mod Joining
 pub mod Sizing
 pub mod Trip

@@ -1,16 +1,16 @@
 -- How many octets a written record has, and what fits.
-use Prim.Native.Nat.{ℕ, _+_, _-_, _≤_}
-use mathlib.Core.List.{List, [], _∷_, _++_}
-use mathlib.Core.Bool.{Bool, true, false, cond, _&&_, true≢false}
+use Prim.Native.Nat.{ℕ, _+_, _-_, _<_, _≤_}
+use mathlib.Core.List.{List}
+use mathlib.Core.Bool.{Bool, true, false, cond, not, _&&_}
 use mathlib.Core.Logic.{_⊎_, inl, inr, ⊎-elim}
-use mathlib.Core.Path.{_≡_, refl, sym, ap, _∙_}
+use mathlib.Core.Path.{_≡_, refl}
 use native.Mathlib.Omega.{arith}
-use borrow.Author.Tests.{ltb-false, eqb-true, le-ltb, eq-eqb, ne-eqb}
-use lib.ListN.{length, getD, replicate, length-append, length-replicate}
-use lib.Dec.{ltb, eqb}
+use borrow.Author.Tests.{ltb-false, eqb-true, leb-true, leb-false, lt-ltb, le-ltb, ne-eqb}
+use lib.ListN.{length, getD, length-append, length-replicate}
+use lib.Dec.{ltb, leb, eqb}
 use Rattle.call.specs.declared.Event.{Event}
 use Rattle.trace.proofs.Tests.{both, if-so, if-not}
-use Rattle.recorder.specs.Writing.{fieldOctets, headOctets, fieldedOf, tailOctets, headSize, recordSize, recordOctets, elementFitsOf, eventFitsOf, tailFitsOf, recordFitsOf}
+use Rattle.recorder.specs.Writing.{fieldOctets, headOctets, fieldedOf, elementFitsOf, eventFitsOf, tailFitsOf, recordFitsOf}
 
 if-yes : (a b : Bool) → cond a true b ≡ true → (a ≡ true) ⊎ (b ≡ true)
 if-yes true b h = inl refl
@@ -37,40 +37,52 @@ element-in u h =
 pub element-small : (u : List ℕ) → elementFitsOf u ≡ true → length u ≤ 131
 element-small u h = ⊎-elim (λ z. omega arith) (λ w. w .most) (element-in u h)
 
-pub last-test : (u : List ℕ) (n : ℕ) → n ≡ getD u 1 0 → (length u ≡ 0 → ⊥) → 2 ≤ length u → length u ≤ 131 → getD u 0 0 ≡ 126 → eqb n (length u - 2) ≡ elementFitsOf u
-unfolding elementFitsOf
-last-test u n e z a b h = simp (e, ne-eqb (length u) 0 z, le-ltb (length u) 2 a, le-ltb 131 (length u) b, eq-eqb (getD u 0 0) 126 h)
+-- the tests of an element, in the code's order
+within : (n : ℕ) (t : Bool) → leb n 131 ≡ t → ltb 131 n ≡ not t
+within n true h = le-ltb 131 n (leb-true n 131 h)
+within n false h = lt-ltb 131 n (leb-false n 131 h)
 
-pub head-is : (r : ℕ) (e : Event) → length (headOctets r e) ≡ headSize e
-head-is r (Event.Setup n rights q) = refl
-head-is r (Event.Alerting a) = refl
-head-is r (Event.Connect a) = refl
-head-is r (Event.Information side more) = refl
-head-is r (Event.Facility side what) = refl
-head-is r (Event.Disconnect side cause a) = refl
-head-is r (Event.ReleaseComplete side) = refl
-head-is r Event.Tick = refl
-head-is r Event.CallProceeding = refl
-head-is r Event.CongestionControl = refl
+in-order : (p q r : Bool) → (p && q) && r ≡ cond (not p) false (cond q r false)
+in-order true true r = refl
+in-order true false r = refl
+in-order false q r = refl
+
+only-empty : (z : Bool) → z ≡ cond z true false
+only-empty true = refl
+only-empty false = refl
+
+pub short : (u : List ℕ) → length u < 2 → eqb (length u) 0 ≡ elementFitsOf u
+unfolding elementFitsOf
+short u h = simp (lt-ltb (length u) 2 h) (only-empty (eqb (length u) 0))
+
+pub whole : (u : List ℕ) (n : ℕ) → n ≡ getD u 1 0 → 2 ≤ length u → (leb (length u) 131 && eqb (getD u 0 0) 126) && eqb n (length u - 2) ≡ elementFitsOf u
+unfolding elementFitsOf
+whole u n e h = simp (e, ne-eqb (length u) 0 (λ z. omega arith), le-ltb (length u) 2 h, within (length u) _ refl) (in-order (leb (length u) 131) (eqb (getD u 0 0) 126) (eqb (getD u 1 0) (length u - 2)))
 
 pub field-is : (u : List ℕ) → length u ≤ 131 → length (fieldOctets u) ≡ 132
 unfolding fieldOctets
 field-is u h = simp (length-append, length-replicate) (omega arith)
 
-pub tail-is : (has : Bool) (u : List ℕ) (n : ℕ) → tailFitsOf has u ≡ true → n + length (tailOctets has u) ≡ cond has (n + 132) n
-tail-is true u n h = ap (λ (k : ℕ). n + k) (field-is u (element-small u h))
-tail-is false u n h = omega arith
+pub head-small : (r : ℕ) (e : Event) → length (headOctets r e) ≤ 12
+head-small r (Event.Setup n rights q) = omega arith
+head-small r (Event.Alerting a) = omega arith
+head-small r (Event.Connect a) = omega arith
+head-small r (Event.Information side more) = omega arith
+head-small r (Event.Facility side what) = omega arith
+head-small r (Event.Disconnect side cause a) = omega arith
+head-small r (Event.ReleaseComplete side) = omega arith
+head-small r Event.Tick = omega arith
+head-small r Event.CallProceeding = omega arith
+head-small r Event.CongestionControl = omega arith
 
-pub record-is : (r : ℕ) (e : Event) (u : List ℕ) → recordFitsOf r e u ≡ true → length (recordOctets r e u) ≡ recordSize e
-unfolding recordOctets recordFitsOf
-record-is r e u h =
-    length-append (headOctets r e) (tailOctets (fieldedOf e) u)
-    ∙ rw (head-is r e) (tail-is (fieldedOf e) u (headSize e) (both (eventFitsOf r e) (tailFitsOf (fieldedOf e) u) h .1))
+pub record-small : (has : Bool) (n : ℕ) → n ≤ 12 → cond has (n + 132) n ≤ 144
+record-small true n h = omega arith
+record-small false n h = omega arith
 
-pub tail-fits : (r : ℕ) (e : Event) (u : List ℕ) → recordFitsOf r e u ≡ true → tailFitsOf (fieldedOf e) u ≡ true
+tail-small : (has : Bool) (u : List ℕ) → tailFitsOf has u ≡ true → length u ≤ 131
+tail-small true u h = element-small u h
+tail-small false u h = let z = eqb-true (length u) 0 h in omega arith
+
+pub fits-small : (r : ℕ) (e : Event) (u : List ℕ) → recordFitsOf r e u ≡ true → length u ≤ 131
 unfolding recordFitsOf
-tail-fits r e u h = both (eventFitsOf r e) (tailFitsOf (fieldedOf e) u) h .1
-
-pub parts-are : (r : ℕ) (e : Event) (u : List ℕ) → length (recordOctets r e u) ≡ length (headOctets r e) + length (tailOctets (fieldedOf e) u)
-unfolding recordOctets
-parts-are r e u = length-append (headOctets r e) (tailOctets (fieldedOf e) u)
+fits-small r e u h = tail-small (fieldedOf e) u (both (eventFitsOf r e) (tailFitsOf (fieldedOf e) u) h .1)

@@ -1,8 +1,9 @@
 -- A record written: the inverse of reading one.
-use Prim.Native.Nat.{ℕ, _+_, _-_, _/_, _%_}
+use Prim.Native.Nat.{ℕ, _-_, _/_, _%_}
 use mathlib.Core.List.{List, [], _∷_, _++_}
+use mathlib.Core.Path.{_≡_}
 use mathlib.Core.Bool.{Bool, true, false, cond, not, _&&_}
-use lib.ListN.{length, getD, replicate}
+use lib.ListN.{length, getD, take, replicate}
 use lib.Dec.{ltb, eqb}
 use Rattle.call.specs.declared.Event.{Event}
 use Rattle.asking.specs.declared.What.{What}
@@ -12,6 +13,7 @@ use Rattle.standing.specs.declared.Answers.{Answers}
 use Rattle.standing.specs.declared.Given.{Given}
 use Rattle.standing.specs.declared.Request.{Request}
 use Rattle.standing.specs.declared.Requests.{Requests}
+use Rattle.recorder.specs.declared.Head.{Head}
 
 abbrev pub flagOctet : Bool → ℕ
 flagOctet false = 0
@@ -64,6 +66,11 @@ headOctets r Event.Tick = 8 ∷ r / 256 ∷ r % 256 ∷ []
 headOctets r Event.CallProceeding = []
 headOctets r Event.CongestionControl = []
 
+-- a head whose first octets, so many as it says, are these
+pub record Holds (h : Head) (o : List ℕ) : Type 0 where
+  pub size : h .size ≡ length o
+  pub octets : take (h .size) (h .octets) ≡ o
+
 -- whether a record of the event has an element field
 abbrev pub fieldedOf : Event → Bool
 fieldedOf (Event.Setup n rights q) = true
@@ -80,21 +87,6 @@ fieldedOf Event.CongestionControl = false
 abbrev pub tailOctets : Bool → List ℕ → List ℕ
 tailOctets true u = fieldOctets u
 tailOctets false u = []
-
-abbrev pub headSize : Event → ℕ
-headSize (Event.Setup n rights q) = 12
-headSize (Event.Alerting a) = 6
-headSize (Event.Connect a) = 6
-headSize (Event.Information side more) = 4
-headSize (Event.Facility side what) = 5
-headSize (Event.Disconnect side cause a) = 8
-headSize (Event.ReleaseComplete side) = 4
-headSize Event.Tick = 3
-headSize Event.CallProceeding = 0
-headSize Event.CongestionControl = 0
-
-abbrev pub recordSize : Event → ℕ
-recordSize e = cond (fieldedOf e) (headSize e + 132) (headSize e)
 
 unfoldable pub recordOctets : ℕ → Event → List ℕ → List ℕ
 recordOctets r e u = headOctets r e ++ tailOctets (fieldedOf e) u

@@ -1,17 +1,16 @@
 // A record of a trace, written into a buffer that the caller lends.
 ghost use mathlib.Core.Path.{_≡_};
-ghost use mathlib.Core.Bool.{true};
-ghost use Prim.Native.Nat.{_≤_, _+_};
-ghost use lib.ListN.{length};
+ghost use mathlib.Core.Bool.{cond};
+ghost use mathlib.Core.List.{[], _++_};
+ghost use Prim.Native.Nat.{_≤_, _+_, _/_, _%_};
+ghost use lib.ListN.{length, take};
 ghost use Rattle.call.specs.declared.Event.{Event};
 ghost use Rattle.room.specs.Room.{Written};
-ghost use Rattle.room.specs.Putting.{Put};
-ghost use Rattle.recorder.specs.Writing.{flagOctet, sideOctet, requestOctet, givenOctet, whatOctet, fieldOctets, headOctets, headSize, recordSize, sidedOctets, answersOctets, fieldedOf, tailOctets, recordOctets, elementFitsOf, eventFitsOf, tailFitsOf, recordFitsOf};
+ghost use Rattle.recorder.specs.Writing.{flagOctet, sideOctet, requestOctet, givenOctet, whatOctet, fieldOctets, headOctets, Holds, sidedOctets, answersOctets, fieldedOf, recordOctets, elementFitsOf, eventFitsOf, recordFitsOf};
 use asking::What;
 use call::Event;
 use room::Bar;
 use room::Wrote;
-use room::end_of;
 use room::write_octets;
 use rules::side::Side;
 use service::rights::Rights;
@@ -19,6 +18,12 @@ use standing::Answers;
 use standing::Given;
 use standing::Request;
 use standing::Requests;
+
+// What comes before the element field of a record: its first octets, so many as `size` says.
+struct Head {
+    octets: [u8; 12],
+    size: usize,
+}
 
 fn flag_octet(b: bool) -> u8
     ensures { λ r. ⌜ r ≡ flagOctet b ⌝ }
@@ -66,6 +71,18 @@ fn what_octet(w: What) -> u8
     }
 }
 
+fn high(x: u16) -> u8
+    ensures { λ r. ⌜ r ≡ x / 256 ⌝ }
+{
+    (x / 256) as u8
+}
+
+fn low(x: u16) -> u8
+    ensures { λ r. ⌜ r ≡ x % 256 ⌝ }
+{
+    (x % 256) as u8
+}
+
 fn wide(x: u8) -> usize
     ensures { λ r. ⌜ r ≡ x ⌝ }
 {
@@ -76,19 +93,11 @@ fn wide(x: u8) -> usize
 fn element_fits(u: &[u8]) -> bool
     ensures { λ t. ⌜ t ≡ elementFitsOf (now (u .entry)) ⌝ }
 {
-    if u.len() == 0 {
-        return true;
+    let n = u.len();
+    if n < 2 {
+        return n == 0;
     }
-    if u.len() < 2 {
-        return false;
-    }
-    if u.len() > 131 {
-        return false;
-    }
-    if u[0] != 126 {
-        return false;
-    }
-    wide(u[1]) == u.len() - 2
+    (n <= 131) & (u[0] == 126) & (wide(u[1]) == n - 2)
 }
 
 fn fielded(e: Event) -> bool
@@ -152,163 +161,172 @@ pub fn record_fits(r: u16, e: Event, u: &[u8]) -> bool
     }
 }
 
-// The element field: the number of octets, the octets, and zeros.
-fn put_field(buf: &mut [u8], at: usize, u: &[u8]) -> usize
-    requires { ⌜ (length (now u) ≤ 131) × (at + 132 ≤ length (now buf)) ⌝ }
-    ensures { λ r. ⌜ Put at (fieldOctets (now (u .entry))) (now (buf .entry)) (now (buf .exit)) r ⌝ }
-{
-    let n = u.len();
-    let count = [(n % 256) as u8];
-    let zeros = [0u8; 131];
-    let rest = 131 - n;
-    let i = end_of(write_octets(buf, at, &count));
-    let j = end_of(write_octets(buf, i, u));
-    end_of(write_octets(buf, j, &zeros[0..rest]))
-}
-
-fn put_tail(buf: &mut [u8], at: usize, has: bool, u: &[u8]) -> usize
-    requires { ⌜ (tailFitsOf has (now u) ≡ true) × (at + length (tailOctets has (now u)) ≤ length (now buf)) ⌝ }
-    ensures { λ r. ⌜ Put at (tailOctets has (now (u .entry))) (now (buf .entry)) (now (buf .exit)) r ⌝ }
-{
-    if has { put_field(buf, at, u) } else { at }
-}
-
-fn put_setup(buf: &mut [u8], at: usize, r: u16, n: u16, rights: Rights, q: Requests) -> usize
-    requires { ⌜ at + 12 ≤ length (now buf) ⌝ }
-    ensures { λ i. ⌜ Put at (headOctets r (Event.Setup n rights q)) (now (buf .entry)) (now (buf .exit)) i ⌝ }
+fn setup_head(r: u16, rights: Rights, q: Requests) -> Head
+    ensures { λ h. ⌜ Holds h (headOctets r (Event.Setup r rights q)) ⌝ }
 {
     let one = q.one;
     let two = q.two;
     let three = q.three;
-    let head = [
+    let octets = [
         1,
-        (r / 256) as u8,
-        (r % 256) as u8,
+        high(r),
+        low(r),
         rights.services,
         flag_octet(rights.late),
         flag_octet(rights.leave),
         rights.limit,
-        (rights.burst % 256) as u8,
-        (rights.refill % 256) as u8,
+        low(rights.burst),
+        low(rights.refill),
         request_octet(one),
         request_octet(two),
         request_octet(three),
     ];
-    end_of(write_octets(buf, at, &head))
+    Head { octets, size: 12 }
 }
 
-fn put_answers(buf: &mut [u8], at: usize, kind: u8, r: u16, a: Answers) -> usize
-    requires { ⌜ at + 6 ≤ length (now buf) ⌝ }
-    ensures { λ i. ⌜ Put at (answersOctets kind r a) (now (buf .entry)) (now (buf .exit)) i ⌝ }
+fn answers_head(kind: u8, r: u16, a: Answers) -> Head
+    ensures { λ h. ⌜ Holds h (answersOctets kind r a) ⌝ }
 {
     let one = a.one;
     let two = a.two;
     let three = a.three;
-    let head = [
+    let octets = [
         kind,
-        (r / 256) as u8,
-        (r % 256) as u8,
+        high(r),
+        low(r),
         given_octet(one),
         given_octet(two),
         given_octet(three),
+        0,
+        0,
+        0,
+        0,
+        0,
+        0,
     ];
-    end_of(write_octets(buf, at, &head))
+    Head { octets, size: 6 }
 }
 
-fn put_sided(buf: &mut [u8], at: usize, kind: u8, r: u16, s: Side) -> usize
-    requires { ⌜ at + 4 ≤ length (now buf) ⌝ }
-    ensures { λ i. ⌜ Put at (sidedOctets kind r s) (now (buf .entry)) (now (buf .exit)) i ⌝ }
+fn sided_head(kind: u8, r: u16, s: Side) -> Head
+    ensures { λ h. ⌜ Holds h (sidedOctets kind r s) ⌝ }
 {
-    let head = [kind, (r / 256) as u8, (r % 256) as u8, side_octet(s)];
-    end_of(write_octets(buf, at, &head))
+    let octets = [kind, high(r), low(r), side_octet(s), 0, 0, 0, 0, 0, 0, 0, 0];
+    Head { octets, size: 4 }
 }
 
-fn put_disconnect(buf: &mut [u8], at: usize, r: u16, s: Side, cause: u8, a: Answers) -> usize
-    requires { ⌜ at + 8 ≤ length (now buf) ⌝ }
-    ensures { λ i. ⌜ Put at (headOctets r (Event.Disconnect s cause a)) (now (buf .entry)) (now (buf .exit)) i ⌝ }
+fn facility_head(r: u16, s: Side, w: What) -> Head
+    ensures { λ h. ⌜ Holds h (headOctets r (Event.Facility s w)) ⌝ }
+{
+    let octets = [
+        5,
+        high(r),
+        low(r),
+        side_octet(s),
+        what_octet(w),
+        0,
+        0,
+        0,
+        0,
+        0,
+        0,
+        0,
+    ];
+    Head { octets, size: 5 }
+}
+
+fn disconnect_head(r: u16, s: Side, cause: u8, a: Answers) -> Head
+    ensures { λ h. ⌜ Holds h (headOctets r (Event.Disconnect s cause a)) ⌝ }
 {
     let one = a.one;
     let two = a.two;
     let three = a.three;
-    let head = [
+    let octets = [
         6,
-        (r / 256) as u8,
-        (r % 256) as u8,
+        high(r),
+        low(r),
         side_octet(s),
         cause,
         given_octet(one),
         given_octet(two),
         given_octet(three),
+        0,
+        0,
+        0,
+        0,
     ];
-    end_of(write_octets(buf, at, &head))
+    Head { octets, size: 8 }
 }
 
-fn put_head(buf: &mut [u8], at: usize, r: u16, e: Event) -> usize
-    requires { ⌜ at + length (headOctets r e) ≤ length (now buf) ⌝ }
-    ensures { λ i. ⌜ Put at (headOctets r e) (now (buf .entry)) (now (buf .exit)) i ⌝ }
+fn tick_head(r: u16) -> Head
+    ensures { λ h. ⌜ Holds h (headOctets r Event.Tick) ⌝ }
 {
-    match e {
-        Event::Setup {
-            reference,
-            rights,
-            requests,
-        } => put_setup(buf, at, r, reference, rights, requests),
-        Event::Alerting { answers } => put_answers(buf, at, 2, r, answers),
-        Event::Connect { answers } => put_answers(buf, at, 3, r, answers),
-        Event::Information { side, more: _ } => put_sided(buf, at, 4, r, side),
-        Event::Facility { side, what } => {
-            let i = put_sided(buf, at, 5, r, side);
-            let last = [what_octet(what)];
-            end_of(write_octets(buf, i, &last))
-        }
-        Event::Disconnect {
-            side,
-            cause,
-            answers,
-        } => put_disconnect(buf, at, r, side, cause, answers),
-        Event::ReleaseComplete { side } => put_sided(buf, at, 7, r, side),
-        Event::Tick => {
-            let head = [8, (r / 256) as u8, (r % 256) as u8];
-            end_of(write_octets(buf, at, &head))
-        }
-        Event::CallProceeding => at,
-        Event::CongestionControl => at,
-    }
+    let octets = [8, high(r), low(r), 0, 0, 0, 0, 0, 0, 0, 0, 0];
+    Head { octets, size: 3 }
 }
 
-fn head_size(e: Event) -> usize
-    ensures { λ n. ⌜ (n ≡ headSize e) × (n ≤ 12) ⌝ }
+fn no_head() -> Head
+    ensures { λ h. ⌜ Holds h [] ⌝ }
+{
+    let octets = [0u8; 12];
+    Head { octets, size: 0 }
+}
+
+fn head_of(r: u16, e: Event) -> Head
+    ensures { λ h. ⌜ Holds h (headOctets r e) ⌝ }
 {
     match e {
         Event::Setup {
             reference: _,
-            rights: _,
-            requests: _,
-        } => 12,
-        Event::Alerting { answers: _ } => 6,
-        Event::Connect { answers: _ } => 6,
-        Event::Information { side: _, more: _ } => 4,
-        Event::Facility { side: _, what: _ } => 5,
+            rights,
+            requests,
+        } => setup_head(r, rights, requests),
+        Event::Alerting { answers } => answers_head(2, r, answers),
+        Event::Connect { answers } => answers_head(3, r, answers),
+        Event::Information { side, more: _ } => sided_head(4, r, side),
+        Event::Facility { side, what } => facility_head(r, side, what),
         Event::Disconnect {
-            side: _,
-            cause: _,
-            answers: _,
-        } => 8,
-        Event::ReleaseComplete { side: _ } => 4,
-        Event::Tick => 3,
-        Event::CallProceeding => 0,
-        Event::CongestionControl => 0,
+            side,
+            cause,
+            answers,
+        } => disconnect_head(r, side, cause, answers),
+        Event::ReleaseComplete { side } => sided_head(7, r, side),
+        Event::Tick => tick_head(r),
+        Event::CallProceeding => no_head(),
+        Event::CongestionControl => no_head(),
     }
 }
 
-fn record_size(e: Event) -> usize
-    ensures { λ n. ⌜ n ≡ recordSize e ⌝ }
+// The element field: the number of octets, the octets, and zeros.
+fn field_of(u: &[u8]) -> [u8; 132]
+    requires { ⌜ length (now u) ≤ 131 ⌝ }
+    ensures { λ f. ⌜ f ≡ fieldOctets (now (u .entry)) ⌝ }
 {
-    if fielded(e) {
-        head_size(e) + 132
-    } else {
-        head_size(e)
-    }
+    let mut field = [0u8; 132];
+    field[0] = (u.len() % 256) as u8;
+    write_octets(&mut field, 1, u);
+    field
+}
+
+// A head and an element field after it.
+fn joined(h: Head, u: &[u8]) -> [u8; 144]
+    requires { ⌜ (h .size ≤ 12) × (length (now u) ≤ 131) ⌝ }
+    ensures { λ w. ⌜ take (h .size + 132) w ≡ take (h .size) (h .octets) ++ fieldOctets (now (u .entry)) ⌝ }
+{
+    let head = h.octets;
+    let n = h.size;
+    let field = field_of(u);
+    let mut record = [0u8; 144];
+    write_octets(&mut record, 0, &head);
+    write_octets(&mut record, n, &field);
+    record
+}
+
+// How many octets a record has, by those of its head and whether an element field follows.
+fn size_of(n: usize, has: bool) -> usize
+    requires { ⌜ n ≤ 12 ⌝ }
+    ensures { λ s. ⌜ s ≡ cond has (n + 132) n ⌝ }
+{
+    if has { n + 132 } else { n }
 }
 
 // Writes a record from a place on, or no octet at all.
@@ -318,14 +336,8 @@ pub fn write_record(buf: &mut [u8], at: usize, r: u16, e: Event, u: &[u8]) -> Wr
     if !record_fits(r, e, u) {
         return Wrote::Refused(Bar::Range);
     }
-    let n = record_size(e);
-    if at > buf.len() {
-        return Wrote::Refused(Bar::Room);
-    }
-    if buf.len() - at < n {
-        return Wrote::Refused(Bar::Room);
-    }
-    let has = fielded(e);
-    let i = put_head(buf, at, r, e);
-    Wrote::To(put_tail(buf, i, has, u))
+    let head = head_of(r, e);
+    let record = joined(head, u);
+    let n = size_of(head.size, fielded(e));
+    write_octets(buf, at, &record[0..n])
 }
