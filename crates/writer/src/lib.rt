@@ -2,7 +2,7 @@
 ghost use mathlib.Core.Path.{_≡_};
 ghost use mathlib.Core.Bool.{true};
 ghost use Prim.Native.Nat.{_≤_, _+_};
-ghost use lib.ListN.{length};
+ghost use lib.ListN.{length, getD};
 ghost use Rattle.room.specs.Room.{Written};
 ghost use Rattle.room.specs.Putting.{Put};
 ghost use Rattle.component.specs.Facility.{componentFits, facilityOctets};
@@ -53,16 +53,27 @@ fn put_header(buf: &mut [u8], h: Header) -> usize
     }
 }
 
+// The single octet, or 0 for none.
+fn single_octet(s: Single) -> u8
+    ensures { λ r. ⌜ r ≡ getD (singleOctets s) 0 0 ⌝ }
+{
+    match s {
+        Single::Absent => 0,
+        Single::MoreData => 0xA0,
+        Single::Ready => 0xB0,
+        Single::NotReady => 0xBF,
+    }
+}
+
 fn put_single(buf: &mut [u8], at: usize, s: Single) -> usize
     requires { ⌜ at + length (singleOctets s) ≤ length (now buf) ⌝ }
     ensures { λ r. ⌜ Put at (singleOctets s) (now (buf .entry)) (now (buf .exit)) r ⌝ }
 {
-    match s {
-        Single::Absent => at,
-        Single::MoreData => end_of(write_octets(buf, at, &[0xA0])),
-        Single::Ready => end_of(write_octets(buf, at, &[0xB0])),
-        Single::NotReady => end_of(write_octets(buf, at, &[0xBF])),
+    let octet = single_octet(s);
+    if octet == 0 {
+        return at;
     }
+    end_of(write_octets(buf, at, &[octet]))
 }
 
 fn put_cause(buf: &mut [u8], at: usize, c: Cause) -> usize
@@ -124,11 +135,8 @@ pub fn write_message(buf: &mut [u8], w: Message, user: &[u8]) -> Wrote
     if !message_fits(w, user) {
         return Wrote::Refused(Bar::Range);
     }
-    let front = front_size(w);
-    if buf.len() < front {
-        return Wrote::Refused(Bar::Room);
-    }
-    if buf.len() - front < user.len() {
+    let n = front_size(w) + user.len();
+    if buf.len() < n {
         return Wrote::Refused(Bar::Room);
     }
     Wrote::To(put_message(buf, w, user))

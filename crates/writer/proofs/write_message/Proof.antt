@@ -3,7 +3,6 @@ use native.Mathlib.Omega.{arith}
 use borrow.Author.Tests.{not-true, not-false}
 use Rattle.room.proofs.Outcome.{barred, no-room, put-in}
 use Rattle.fitting.proofs.Ranges.{message-is}
-use borrow.Author.Tests.{le-ltb, lt-ltb}
 use borrow.Author.Needs.{needs}
 use Rattle.writer.proofs.write_message.Statement.{statement}
 use Rattle.writer.proofs.write_message.Tie as tie
@@ -22,23 +21,20 @@ returns c = barred (sym (c .before .message-fits .ensures) ∙ not-true _ (c .if
 front-size-requires : tie.Need-front-size-requires
 front-size-requires c κs = search needs
 
+add-n : tie.Need-add-n
+add-n c = search needs
+
 returns-2 : tie.Need-returns-2
 returns-2 c = no-room (sym (c .before .before .before .message-fits .ensures) ∙ not-false _ (c .before .before .if1 .left)) (omega (arith, message-is (c .before .before .before .before .before .before .args .w) (c .before .before .before .before .before .before .args .user .now), c .before .front-size .ensures .0))
 
-sub-if3 : tie.Need-sub-if3
-sub-if3 c = search needs
-
-returns-3 : tie.Need-returns-3
-returns-3 c = no-room (sym (c .before .before .before .before .message-fits .ensures) ∙ not-false _ (c .before .before .before .if1 .left)) (omega (arith, message-is (c .before .before .before .before .before .before .before .args .w) (c .before .before .before .before .before .before .before .args .user .now), c .before .before .front-size .ensures .0))
-
 put-message-requires : tie.Need-put-message-requires
-put-message-requires c κs = (sym (c .before .before .before .before .before .message-fits .ensures) ∙ not-false _ (c .before .before .before .before .if1 .left), omega (arith, message-is (c .before .before .before .before .before .before .before .before .args .w) (c .before .before .before .before .before .before .before .before .args .user .now), c .before .before .before .front-size .ensures .0))
+put-message-requires c κs = (sym (c .before .before .before .before .message-fits .ensures) ∙ not-false _ (c .before .before .before .if1 .left), omega (arith, message-is (c .before .before .before .before .before .before .before .args .w) (c .before .before .before .before .before .before .before .args .user .now), c .before .before .front-size .ensures .0))
 
 same-length : tie.Need-same-length
 same-length c = search needs
 
-returns-4 : tie.Need-returns-4
-returns-4 c = put-in (sym (c .before .before .before .before .before .before .before .before .message-fits .ensures) ∙ not-false _ (c .before .before .before .before .before .before .before .if1 .left)) (omega (arith, message-is (c .before .before .before .before .before .before .before .before .before .before .before .args .w) (c .before .before .before .before .before .before .before .before .before .before .before .args .user .now), c .before .before .before .before .before .before .front-size .ensures .0)) (c .before .before .put-message .ensures .end) (c .before .before .put-message .ensures .octets)
+returns-3 : tie.Need-returns-3
+returns-3 c = put-in (sym (c .before .before .before .before .before .before .before .message-fits .ensures) ∙ not-false _ (c .before .before .before .before .before .before .if1 .left)) (omega (arith, message-is (c .before .before .before .before .before .before .before .before .before .before .args .w) (c .before .before .before .before .before .before .before .before .before .before .args .user .now), c .before .before .before .before .before .front-size .ensures .0)) (c .before .before .put-message .ensures .end) (c .before .before .put-message .ensures .octets)
 
 pub write-message-spec : {M : Type 1} → statement M
 write-message-spec =
@@ -47,9 +43,8 @@ write-message-spec =
     message-fits-requires
     returns
     front-size-requires
+    add-n
     returns-2
-    sub-if3
-    returns-3
     put-message-requires
     same-length
-    returns-4)
+    returns-3)
