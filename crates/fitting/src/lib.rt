@@ -61,15 +61,15 @@ fn single_fits(k: Kind, s: Single) -> bool
     ensures { λ t. ⌜ t ≡ singleFits k s ⌝ }
 {
     match k {
-        Kind::Alerting => plain_fits(s),
-        Kind::CallProceeding => plain_fits(s),
-        Kind::Setup => plain_fits(s),
-        Kind::Connect => plain_fits(s),
         Kind::UserInformation => more_fits(s),
-        Kind::Disconnect => plain_fits(s),
-        Kind::ReleaseComplete => plain_fits(s),
-        Kind::Facility => plain_fits(s),
         Kind::CongestionControl => level_fits(s),
+        Kind::Alerting
+        | Kind::CallProceeding
+        | Kind::Setup
+        | Kind::Connect
+        | Kind::Disconnect
+        | Kind::ReleaseComplete
+        | Kind::Facility => plain_fits(s),
     }
 }
 
@@ -103,19 +103,11 @@ fn wide(x: u8) -> usize
 fn user_fits(u: &[u8]) -> bool
     ensures { λ t. ⌜ t ≡ userFits (now (u .entry)) ⌝ }
 {
-    if u.len() == 0 {
-        return true;
+    let n = u.len();
+    if n < 2 {
+        return n == 0;
     }
-    if u.len() < 2 {
-        return false;
-    }
-    if u.len() > 131 {
-        return false;
-    }
-    if u[0] != 0x7E {
-        return false;
-    }
-    wide(u[1]) == u.len() - 2
+    (n <= 131) & (u[0] == 0x7E) & (wide(u[1]) == n - 2)
 }
 
 // Whether every field is in range.
