@@ -108,20 +108,20 @@ fn fielded(e: Event) -> bool
             reference: _,
             rights: _,
             requests: _,
-        } => true,
-        Event::Alerting { answers: _ } => true,
-        Event::Connect { answers: _ } => true,
-        Event::Information { side: _, more: _ } => true,
-        Event::Facility { side: _, what: _ } => false,
-        Event::Disconnect {
+        }
+        | Event::Alerting { answers: _ }
+        | Event::Connect { answers: _ }
+        | Event::Information { side: _, more: _ }
+        | Event::Disconnect {
             side: _,
             cause: _,
             answers: _,
         } => true,
-        Event::ReleaseComplete { side: _ } => false,
-        Event::Tick => false,
-        Event::CallProceeding => false,
-        Event::CongestionControl => false,
+        Event::Facility { side: _, what: _ }
+        | Event::ReleaseComplete { side: _ }
+        | Event::Tick
+        | Event::CallProceeding
+        | Event::CongestionControl => false,
     }
 }
 
@@ -134,19 +134,18 @@ fn event_fits(r: u16, e: Event) -> bool
             rights,
             requests: _,
         } => (reference == r) & (rights.burst < 256) & (rights.refill < 256),
-        Event::Alerting { answers: _ } => true,
-        Event::Connect { answers: _ } => true,
         Event::Information { side: _, more } => !more,
-        Event::Facility { side: _, what: _ } => true,
         Event::Disconnect {
             side: _,
             cause,
             answers: _,
         } => cause < 128,
-        Event::ReleaseComplete { side: _ } => true,
-        Event::Tick => true,
-        Event::CallProceeding => false,
-        Event::CongestionControl => false,
+        Event::Alerting { answers: _ }
+        | Event::Connect { answers: _ }
+        | Event::Facility { side: _, what: _ }
+        | Event::ReleaseComplete { side: _ }
+        | Event::Tick => true,
+        Event::CallProceeding | Event::CongestionControl => false,
     }
 }
 
