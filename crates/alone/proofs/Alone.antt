@@ -16,7 +16,7 @@ use Rattle.choosing.specs.declared.choice.Choice.{Choice}
 use Rattle.choosing.specs.declared.choice.Verdict.{Verdict}
 use Rattle.settling.specs.declared.settle.Outcome.{Outcome}
 use Rattle.choosing.specs.Look.{liveAs}
-use Rattle.exchange.specs.Table.{tableSound}
+use Rattle.table.specs.Table.{tableSound}
 use Rattle.exchange.specs.Chosen.{chosenOf}
 use Rattle.choosing.specs.Choice.{verdictNumber, referenceOf, opensOf, rangedOf}
 use Rattle.settling.specs.Settle.{subjectOf, outcomeOf, refusalOf, settledOf}

@@ -19,7 +19,7 @@ use Rattle.call.specs.Answering.{answeredCallOf, goesOnOf, clearsOf, alertingFa
 use Rattle.call.specs.Information.{metersOf, informationPassageOf, carriedOf, withElementOf, informationOf}
 use Rattle.call.specs.Disconnect.{endsOf, releaseCompleteOf}
 use Rattle.call.specs.Tick.{refillsOf, runsOf, passesTickOf, tickOf}
-use Rattle.exchange.specs.Table.{tableSound}
+use Rattle.table.specs.Table.{tableSound}
 use Rattle.exchange.specs.Chosen.{chosenOf}
 use Rattle.choosing.specs.Choice.{chooseOf}
 use Rattle.settling.specs.Settle.{subjectOf, keptOf, outcomeOf, refusalOf, settledOf}

@@ -19,7 +19,7 @@ use Rattle.choosing.specs.declared.choice.Choice.{Choice}
 use Rattle.choosing.specs.declared.choice.Verdict.{Verdict}
 use Rattle.choosing.specs.declared.look.Found.{Found}
 use Rattle.choosing.specs.Look.{liveAs, isAt}
-use Rattle.exchange.specs.Table.{findFrom, placeFrom, heldIn, tableSound}
+use Rattle.table.specs.Table.{findFrom, placeFrom, heldIn, tableSound}
 use Rattle.exchange.specs.Chosen.{chosenOf}
 use Rattle.choosing.specs.Choice.{referenceOf, opensOf, rangedOf, newPlaceOf, oldPlaceOf, chooseOf}
 use Rattle.settling.specs.Settle.{settledOf}
@@ -27,7 +27,7 @@ use Rattle.exchange.specs.Step.{tableAt, stepTable}
 use Rattle.ranges.specs.Ranges.{InRangeCall}
 use Rattle.exchange.specs.Promises.{LiveAt, Faulty, over, twins, unsound, heldCall}
 use Rattle.alone.specs.Alone.{AllFresh}
-use Rattle.exchange.proofs.Searched.{at-held}
+use Rattle.table.proofs.Searched.{at-held}
 use Rattle.exchange.proofs.Counted.{both, and-true, clash, not-free, is-live, found-live, found-lowest, not-found, not-faulty, is-faulty}
 use Rattle.ranges.proofs.Kept.{follows-in}
 use Rattle.alone.proofs.AloneKept.{settled-in, opens-in}

@@ -19,7 +19,7 @@ use Rattle.choosing.specs.declared.choice.Wanted.{Wanted}
 use Rattle.choosing.specs.declared.look.Found.{Found}
 use Rattle.choosing.specs.Choice.{wantedOf, ownOr, isNew, referenceOf, opensOf, rangedOf, chooseOf}
 use Rattle.settling.specs.Settle.{subjectOf, keptOf, outcomeOf, refusalOf, settledOf}
-use Rattle.exchange.specs.Table.{tableSound, findFrom, placeFrom}
+use Rattle.table.specs.Table.{tableSound, findFrom, placeFrom}
 use Rattle.exchange.specs.Chosen.{chosenOf}
 use Rattle.exchange.specs.Step.{outcomeAt, tableAt, stepOutcome, stepTable}
 use Rattle.exchange.specs.Promises.{Held}

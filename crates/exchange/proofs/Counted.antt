@@ -14,12 +14,12 @@ use Rattle.rules.specs.Phase.{liveOf}
 use Rattle.call.specs.declared.Call.{Call}
 use Rattle.call.specs.Sound.{freshCall, soundOf, fieldsFitOf}
 use Rattle.choosing.specs.Look.{liveAs, isAt}
-use Rattle.exchange.specs.Table.{findFrom, placeFrom, heldIn, callsSound, tableSound}
+use Rattle.table.specs.Table.{findFrom, placeFrom, heldIn, callsSound, tableSound}
 use Rattle.exchange.specs.Promises.{Free, LiveAt, Held, Full, Faulty, over, twins, unsound, heldCall, Lowest}
 use Rattle.choosing.specs.declared.look.Found.{Found}
 use Rattle.ranges.specs.Ranges.{InRangeCall}
 use Rattle.ranges.proofs.Ranges.{fields-range}
-use Rattle.exchange.proofs.Searched.{at-held}
+use Rattle.table.proofs.Searched.{at-held}
 use Rattle.exchange.proofs.Within.{same-found}
 
 -- ---- tests

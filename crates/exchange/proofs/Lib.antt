@@ -1,10 +1,6 @@
-pub mod Rows
-pub mod Arms
 pub mod Lends
 pub mod Again
 pub mod Looks
-pub mod Along
-pub mod Searched
 pub mod Within
 pub mod Planned
 pub mod Counted

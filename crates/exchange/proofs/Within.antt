@@ -10,7 +10,7 @@ use Rattle.rules.specs.declared.answer.Answer.{Answer}
 use Rattle.call.specs.declared.Call.{Call}
 use Rattle.call.specs.declared.Event.{Event}
 use Rattle.choosing.specs.Look.{liveAs, freeOf}
-use Rattle.exchange.specs.Table.{findFrom, placeFrom, tableSound}
+use Rattle.table.specs.Table.{findFrom, placeFrom, tableSound}
 use Rattle.exchange.specs.Chosen.{chosenOf}
 use Rattle.choosing.specs.Choice.{referenceOf, opensOf, rangedOf, newPlaceOf, oldPlaceOf, chooseOf}
 use Rattle.choosing.specs.declared.look.Found.{Found}

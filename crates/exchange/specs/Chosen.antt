@@ -4,7 +4,7 @@ use mathlib.Core.List.{List}
 use Rattle.call.specs.declared.Call.{Call}
 use Rattle.call.specs.declared.Event.{Event}
 use Rattle.choosing.specs.declared.choice.Choice.{Choice}
-use Rattle.exchange.specs.Table.{tableSound, findFrom, placeFrom}
+use Rattle.table.specs.Table.{tableSound, findFrom, placeFrom}
 use Rattle.choosing.specs.Choice.{referenceOf, chooseOf}
 
 unfoldable pub chosenOf : List Call → ℕ → Event → Choice

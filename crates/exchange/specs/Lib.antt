@@ -1,5 +1,4 @@
 pub mod Halves
 pub mod Chosen
 pub mod Step
-pub mod Table
 pub mod Promises

@@ -1,14 +1,14 @@
 // Which record of a lent table an event goes to.
 ghost use mathlib.Core.Path.{_≡_};
 ghost use Rattle.exchange.specs.Chosen.{chosenOf};
-use crate::table::find;
-use crate::table::place;
-use crate::table::sound;
 use call::Call;
 use call::Event;
 use choosing::choice::Choice;
 use choosing::choice::choose;
 use choosing::choice::reference_of;
+use table::find;
+use table::place;
+use table::sound;
 
 // What the table says of an event.
 pub fn chosen(t: &[Call], reference: u16, event: Event) -> Choice

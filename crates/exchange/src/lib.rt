@@ -1,4 +1,3 @@
 // The calls of a line, in a table that its holder lends.
 pub mod chosen;
 pub mod step;
-pub mod table;

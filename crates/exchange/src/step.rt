@@ -3,7 +3,6 @@ ghost use mathlib.Core.Path.{_≡_};
 ghost use Rattle.exchange.specs.Halves.{lookOf, committed};
 ghost use Rattle.exchange.specs.Step.{stepOutcome, stepTable};
 use crate::chosen::chosen;
-use crate::table::get;
 use call::Call;
 use call::Event;
 use choosing::choice::Choice;
@@ -17,6 +16,7 @@ use settling::plan::record;
 use settling::plan::row;
 use settling::plan::told;
 use settling::settle::Outcome;
+use table::call_at;
 
 // What the table shows of an event.
 pub fn look(t: &[Call], reference: u16, event: Event) -> Looked
@@ -25,7 +25,7 @@ pub fn look(t: &[Call], reference: u16, event: Event) -> Looked
     let choice = chosen(t, reference, event);
     match choice {
         Choice::At(i) => {
-            let c = get(t, i);
+            let c = call_at(t, i);
             let l = met(i, c);
             l
         }

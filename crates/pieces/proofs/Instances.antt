@@ -17,7 +17,7 @@ use Rattle.call.specs.Reply.{barOf, refusedOf, heardOf}
 use Rattle.call.specs.Setup.{setupPhaseOf, filledOf, toCallerOf, toCalledOf, setupCarriesOf, proceedsOf, setupOf}
 use Rattle.call.specs.Information.{metersOf}
 use Rattle.call.specs.Tick.{refillsOf, readyOf, runsOf, passesTickOf, tickOf}
-use Rattle.exchange.specs.Table.{tableSound}
+use Rattle.table.specs.Table.{tableSound}
 use Rattle.exchange.specs.Chosen.{chosenOf}
 use Rattle.choosing.specs.Choice.{chooseOf}
 use Rattle.settling.specs.Settle.{subjectOf, keptOf, outcomeOf, refusalOf, settledOf}

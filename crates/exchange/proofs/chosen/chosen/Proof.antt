@@ -40,7 +40,7 @@ use Rattle.call.specs.declared.Event.{Event}
 use Rattle.call.proofs.Call as T
 use Rattle.call.proofs.Event as E
 use Rattle.call.proofs.Event.Laws as E′
-use Rattle.exchange.specs.Table.{tableSound, findFrom, placeFrom}
+use Rattle.table.specs.Table.{tableSound, findFrom, placeFrom}
 use Rattle.exchange.specs.Chosen.{chosenOf}
 use Rattle.choosing.specs.Choice.{referenceOf, chooseOf}
 use Rattle.choosing.specs.declared.look.Found.{Found}
@@ -54,18 +54,18 @@ use Rattle.choosing.proofs.choice.reference_of as g
 use Rattle.choosing.proofs.choice.reference_of.Symbol as g-def
 use Rattle.choosing.proofs.choice.reference_of.Symbol.{name as #g}
 use Rattle.choosing.proofs.choice.reference_of.Met as g-thm
-use Rattle.exchange.proofs.table.sound as s
-use Rattle.exchange.proofs.table.sound.Symbol as s-def
-use Rattle.exchange.proofs.table.sound.Symbol.{name as #s}
-use Rattle.exchange.proofs.table.sound.Met as s-thm
-use Rattle.exchange.proofs.table.find as h
-use Rattle.exchange.proofs.table.find.Symbol as h-def
-use Rattle.exchange.proofs.table.find.Symbol.{name as #h}
-use Rattle.exchange.proofs.table.find.Met as h-thm
-use Rattle.exchange.proofs.table.place as p
-use Rattle.exchange.proofs.table.place.Symbol as p-def
-use Rattle.exchange.proofs.table.place.Symbol.{name as #p}
-use Rattle.exchange.proofs.table.place.Met as p-thm
+use Rattle.table.proofs.sound as s
+use Rattle.table.proofs.sound.Symbol as s-def
+use Rattle.table.proofs.sound.Symbol.{name as #s}
+use Rattle.table.proofs.sound.Met as s-thm
+use Rattle.table.proofs.find as h
+use Rattle.table.proofs.find.Symbol as h-def
+use Rattle.table.proofs.find.Symbol.{name as #h}
+use Rattle.table.proofs.find.Met as h-thm
+use Rattle.table.proofs.place as p
+use Rattle.table.proofs.place.Symbol as p-def
+use Rattle.table.proofs.place.Symbol.{name as #p}
+use Rattle.table.proofs.place.Met as p-thm
 use Rattle.choosing.proofs.choice.choose as u
 use Rattle.choosing.proofs.choice.choose.Symbol as u-def
 use Rattle.choosing.proofs.choice.choose.Symbol.{name as #u}
@@ -206,7 +206,7 @@ chosen-spec 𝓤 H 𝓜 𝓖 𝓡 =
     (tables 𝓤 H 𝓜 𝓡 code.env .C) (tables 𝓤 H 𝓜 𝓡 code.env .Λ) #f code.function (code.unfolded 𝓤 H 𝓜 𝓡)
     (meets 𝓤 H (𝓖 .A) (givenOf 𝓤 H 𝓜 𝓖) (𝓜 .mem) (𝓡 .run) (tablesOf 𝓤 H 𝓜 (tables 𝓤 H 𝓜 𝓡 code.env))
     (cited 𝓤 H (G 𝓤 H (𝓖 .A) (𝓜 .mem) (𝓡 .run)) 𝓜 𝓡 code.env #g g-def.routine code.calls-choosing·choice·reference-of (g-thm.met 𝓤 H 𝓜 𝓖 𝓡))
-    (cited 𝓤 H (S 𝓤 H (𝓖 .A) (𝓜 .mem) (𝓡 .run)) 𝓜 𝓡 code.env #s s-def.routine code.calls-exchange·table·sound (s-thm.met 𝓤 H 𝓜 𝓖 𝓡))
-    (cited 𝓤 H (F 𝓤 H (𝓖 .A) (𝓜 .mem) (𝓡 .run)) 𝓜 𝓡 code.env #h h-def.routine code.calls-exchange·table·find (h-thm.met 𝓤 H 𝓜 𝓖 𝓡))
-    (cited 𝓤 H (P 𝓤 H (𝓖 .A) (𝓜 .mem) (𝓡 .run)) 𝓜 𝓡 code.env #p p-def.routine code.calls-exchange·table·place (p-thm.met 𝓤 H 𝓜 𝓖 𝓡))
+    (cited 𝓤 H (S 𝓤 H (𝓖 .A) (𝓜 .mem) (𝓡 .run)) 𝓜 𝓡 code.env #s s-def.routine code.calls-table·sound (s-thm.met 𝓤 H 𝓜 𝓖 𝓡))
+    (cited 𝓤 H (F 𝓤 H (𝓖 .A) (𝓜 .mem) (𝓡 .run)) 𝓜 𝓡 code.env #h h-def.routine code.calls-table·find (h-thm.met 𝓤 H 𝓜 𝓖 𝓡))
+    (cited 𝓤 H (P 𝓤 H (𝓖 .A) (𝓜 .mem) (𝓡 .run)) 𝓜 𝓡 code.env #p p-def.routine code.calls-table·place (p-thm.met 𝓤 H 𝓜 𝓖 𝓡))
     (cited 𝓤 H (Ch 𝓤 H (𝓖 .A) (𝓜 .mem) (𝓡 .run)) 𝓜 𝓡 code.env #u u-def.routine code.calls-choosing·choice·choose (u-thm.met 𝓤 H 𝓜 𝓖 𝓡)))

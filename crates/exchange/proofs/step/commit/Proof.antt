@@ -48,9 +48,9 @@ use Rattle.call.proofs.Call.Laws as T′
 use Rattle.exchange.specs.Halves.{committed}
 use Rattle.settling.specs.Plan.{rowOf, recordOf}
 use Rattle.settling.specs.declared.plan.Put.{Put}
-use Rattle.exchange.proofs.Arms.{assigns-on, skips-on}
+use Rattle.table.proofs.Arms.{assigns-on, skips-on}
 use Rattle.exchange.proofs.Planned.{puts, passes}
-use Rattle.exchange.proofs.Rows.{byte-fits, own-slice}
+use Rattle.table.proofs.Rows.{byte-fits, own-slice}
 use Rattle.meter.proofs.Plainly.{pre-plain, calls-plain, leaves}
 use Rattle.settling.proofs.plan.Put as U
 use Rattle.settling.proofs.plan.Put.Laws as U′

@@ -1,9 +1,8 @@
--- `exchange::step::look` meets its contract: a walk of its MIR, by hand. What the slice reference owns goes to `chosen`, and a copy of it, where a place was chosen, to `get`.
+-- `exchange::step::look` meets its contract: a walk of its MIR, by hand. What the slice reference owns goes to `chosen`, and a copy of it, where a place was chosen, to `call_at`.
 -- Up to the switch the walk holds for any choice. The switch goes by cases on the choice.
 -- Assumes nothing.
 use mathlib.Core.Path.{_≡_, refl, sym, _∙_, ap, subst}
 use Prim.Native.Nat.{ℕ, _<_, _^_}
-use native.Mathlib.Omega.{arith}
 use mathlib.Core.List.{[], _∷_, List}
 use lib.Dec.{T as Holds, eqb}
 use lib.ListN.{length, getD}
@@ -19,7 +18,7 @@ use prog.Wp.{Heap, Env, Calls, Loops, Wp, WpFn, Tables, afterSeq, atReturn}
 use ghost.Atoms.{Atoms, sem}
 use contract.Monad.{Fun, factI}
 use contract.Running.{givenOf, tables, tablesOf}
-use types.Kit.{Given, Item, Sq, runs, anyQ, atRet, ‵, raw, _⊛_, ⋆, _$_, _∵_, !, qed, by, move, keep, use1, use2, split, join, fsplit, fjoin, frame, done}
+use types.Kit.{Given, Item, Sq, runs, anyQ, atRet, ‵, raw, _⊛_, ⋆, _$_, _∵_, !, qed, by, move, keep, use1, use2, split, join, fsplit, fjoin, done}
 use types.Run.{look, init, forget, stop, fld, from, load, of-opd, and-then, no-more, assigns, land, first, switches, returns, enter, alloc1, alloc0, params1, pass1, pass0, free1, free0}
 use types.Part.{whole, look-in}
 use types.Match.{vrt, look-tag, in-variant}
@@ -40,7 +39,7 @@ use denote.Triple.Entry.{onEntry}
 use denote.Triple.Spec.{Meets, tripleOf}
 use denote.Triple.Statement.{Contract, Triple}
 use denote.Triple.Table.{entered, cited}
-use denote.Triple.Walked.{says, Stays, stay-dropped, walkOf, goes-dropped, walked, walk-meets}
+use denote.Triple.Walked.{Stays, stay-dropped, walkOf, goes-dropped, walked, walk-meets}
 use denote.Exit.{yes}
 use Rattle.call.specs.declared.Call.{Call}
 use Rattle.call.specs.declared.Event.{Event}
@@ -55,9 +54,8 @@ use Rattle.choosing.specs.declared.choice.Choice.{Choice}
 use Rattle.choosing.specs.declared.choice.Choice.the-variants.{At, Refused}
 use Rattle.choosing.specs.declared.choice.Verdict.{Verdict}
 use Rattle.settling.specs.declared.plan.Looked.{Looked}
-use Rattle.exchange.proofs.Arms.{assigns-on}
+use Rattle.table.proofs.Arms.{assigns-on}
 use Rattle.meter.proofs.Plainly.{pre-plain, calls-told, calls-plain, leaves}
-use Rattle.exchange.proofs.Within.{chosen-within}
 use Rattle.settling.proofs.plan.Looked as U
 use Rattle.settling.proofs.plan.Looked.Laws as U′
 use Rattle.choosing.proofs.choice.Choice as R
@@ -68,10 +66,10 @@ use Rattle.exchange.proofs.chosen.chosen as g
 use Rattle.exchange.proofs.chosen.chosen.Symbol as g-def
 use Rattle.exchange.proofs.chosen.chosen.Symbol.{name as #g}
 use Rattle.exchange.proofs.chosen.chosen.Met as g-thm
-use Rattle.exchange.proofs.table.get as p
-use Rattle.exchange.proofs.table.get.Symbol as p-def
-use Rattle.exchange.proofs.table.get.Symbol.{name as #p}
-use Rattle.exchange.proofs.table.get.Met as p-thm
+use Rattle.table.proofs.call_at as p
+use Rattle.table.proofs.call_at.Symbol as p-def
+use Rattle.table.proofs.call_at.Symbol.{name as #p}
+use Rattle.table.proofs.call_at.Met as p-thm
 use Rattle.settling.proofs.plan.met as d
 use Rattle.settling.proofs.plan.met.Symbol as d-def
 use Rattle.settling.proofs.plan.met.Symbol.{name as #d}
@@ -160,9 +158,9 @@ module _ {M : Type 1} (𝓤 : URA M) (H : Heap 𝓤) (A : Atoms 𝓤) (W : Given
   abbrev to-p : ℕ → Bound 𝓤 H A p.signature
   to-p i = ((κ, tt), (q, tt), tt, (x, (i, tt)), (s ∷ [], (vint w64 i ∷ [], tt)))
 
-  goes-p : (i : ℕ) → i < 2 ^ 64 → i < length ys → ent 𝓤 (sep 𝓤 (sem 𝓤 H A (ShrSlice (named 0) κ T.the-row .own x (s ∷ []))) (sep 𝓤 (A .lft κ q) (emp 𝓤))) (P 𝓤 H A at-mem run .pre (to-p i, tt))
-  goes-p i gi within = qed W (‵ (ShrSlice (named 0) κ T.the-row .own x (s ∷ [])) ∷ (‵ (flft κ q) ⊛ ‵ ftrue) ∷ []) ∵ says ! within $ move ! (1 ∷ 0 ∷ []) $ frame ! $
-      nothing ! $ owned ! usize (Is usize) (uint-makes 𝓤 H A W w64) i _ (refl, gi) $ fjoin ! $ move ! (1 ∷ 0 ∷ []) $ fjoin ! $ done !
+  goes-p : (i : ℕ) → i < 2 ^ 64 → ent 𝓤 (sep 𝓤 (sem 𝓤 H A (ShrSlice (named 0) κ T.the-row .own x (s ∷ []))) (sep 𝓤 (A .lft κ q) (emp 𝓤))) (P 𝓤 H A at-mem run .pre (to-p i, tt))
+  goes-p i gi = qed W (‵ (ShrSlice (named 0) κ T.the-row .own x (s ∷ [])) ∷ (‵ (flft κ q) ⊛ ‵ ftrue) ∷ []) ∵
+      nothing ! $ owned ! usize (Is usize) (uint-makes 𝓤 H A W w64) i _ (refl, gi) $ fjoin ! $ move ! (1 ∷ 0 ∷ []) $ fjoin ! $ move ! (1 ∷ 0 ∷ []) $ join ! $ nothing ! $ move ! (1 ∷ 0 ∷ []) $ done !
 
   abbrev to-d : ℕ → Call → Bound 𝓤 H A d.signature
   to-d i c = (tt, tt, tt, (i, (c, tt)), (vint w64 i ∷ [], (val c ∷ [], tt)))
@@ -195,7 +193,7 @@ module _ {M : Type 1} (𝓤 : URA M) (H : Heap 𝓤) (A : Atoms 𝓤) (W : Given
           switches ! (load ! (from ! (vrt ! refl (fld ! refl (stop !)))) (look-tag ! 14 (whole !))) (
             (λ _.
                 assigns ! (of-opd ! (load ! (from ! (vrt ! refl (fld ! refl (stop !)))) (look-in ! 14 (in-variant ! 0 0 refl refl (whole !))))) (from ! (stop !)) (init ! 12 refl (tt, record { fits = gi })) $
-                move ! (1 ∷ 0 ∷ []) $ use2 W (raw (P 𝓤 H A at-mem run .pre (to-p i, tt))) (goes-p i gi within) $
+                move ! (1 ∷ 0 ∷ []) $ use2 W (raw (P 𝓤 H A at-mem run .pre (to-p i, tt))) (goes-p i gi) $
                 calls-told ! fm p.ended (p.clauses 𝓤 H A at-mem run) known-p (to-p i) tt (λ c. c ≡ getD ys i freshCall) (λ c ws. id⊢ 𝓤 _) val (LL.tells T.the-type T′.the-laws)
                 (and-then ! (load ! (from ! (stop !)) (look ! 19 refl)) (and-then ! (load ! (from ! (stop !)) (look ! 11 refl)) (no-more !))) (λ c ec isc.
                 use1 W (‵ (flft κ q) ⊛ ‵ ftrue) (id⊢ 𝓤 _) $ land ! (from ! (stop !)) (init ! 9 refl (LL.lawful T.the-type T′.the-laws 𝓤 H A W .typed c _ isc .0)) $
@@ -211,11 +209,8 @@ module _ {M : Type 1} (𝓤 : URA M) (H : Heap 𝓤) (A : Atoms 𝓤) (W : Given
             ((λ z. not-one 0 refl z), (λ z. absurd (z .0 .1 refl))),
           )
         where
-          within : i < length ys
-          within = chosen-within ys k e i er
-
           gi : i < 2 ^ 64
-          gi = omega (arith, within, room .0)
+          gi = LE.owed R.the-type R′.the-laws (At i) _ isr .0 .1
       matched (Refused v) er isr =
           switches ! (load ! (from ! (vrt ! refl (fld ! refl (stop !)))) (look-tag ! 14 (whole !))) (
             (λ z. not-one 1 z refl),
@@ -272,6 +267,6 @@ look-spec 𝓤 H 𝓜 𝓖 𝓡 =
     (tables 𝓤 H 𝓜 𝓡 code.env .C) (tables 𝓤 H 𝓜 𝓡 code.env .Λ) #f code.function (code.unfolded 𝓤 H 𝓜 𝓡)
     (meets 𝓤 H (𝓖 .A) (givenOf 𝓤 H 𝓜 𝓖) (𝓜 .mem) (𝓡 .run) (tablesOf 𝓤 H 𝓜 (tables 𝓤 H 𝓜 𝓡 code.env))
     (cited 𝓤 H (G 𝓤 H (𝓖 .A) (𝓜 .mem) (𝓡 .run)) 𝓜 𝓡 code.env #g g-def.routine code.calls-exchange·chosen·chosen (g-thm.met 𝓤 H 𝓜 𝓖 𝓡))
-    (cited 𝓤 H (P 𝓤 H (𝓖 .A) (𝓜 .mem) (𝓡 .run)) 𝓜 𝓡 code.env #p p-def.routine code.calls-exchange·table·get (p-thm.met 𝓤 H 𝓜 𝓖 𝓡))
+    (cited 𝓤 H (P 𝓤 H (𝓖 .A) (𝓜 .mem) (𝓡 .run)) 𝓜 𝓡 code.env #p p-def.routine code.calls-table·call-at (p-thm.met 𝓤 H 𝓜 𝓖 𝓡))
     (cited 𝓤 H (D 𝓤 H (𝓖 .A) (𝓜 .mem) (𝓡 .run)) 𝓜 𝓡 code.env #d d-def.routine code.calls-settling·plan·met (d-thm.met 𝓤 H 𝓜 𝓖 𝓡))
     (cited 𝓤 H (L 𝓤 H (𝓖 .A) (𝓜 .mem) (𝓡 .run)) 𝓜 𝓡 code.env #m m-def.routine code.calls-settling·plan·barred (m-thm.met 𝓤 H 𝓜 𝓖 𝓡)))

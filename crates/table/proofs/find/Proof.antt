@@ -1,4 +1,4 @@
--- `exchange::table::find` meets its contract: a walk of its MIR, by hand. What the slice reference owns goes to `find_from`, which looks from the first record on.
+-- `table::find` meets its contract: a walk of its MIR, by hand. What the slice reference owns goes to `find_from`, which looks from the first record on.
 -- Assumes nothing.
 use mathlib.Core.Path.{_≡_, refl}
 use Prim.Native.Nat.{ℕ, _<_, _^_}
@@ -37,19 +37,19 @@ use denote.Triple.Walked.{Stays, stay-dropped, walkOf, goes-dropped, walked, wal
 use denote.Exit.{yes}
 use Rattle.call.specs.declared.Call.{Call}
 use Rattle.call.proofs.Call as T
-use Rattle.exchange.specs.Table.{findFrom}
+use Rattle.table.specs.Table.{findFrom}
 use Rattle.choosing.specs.declared.look.Found.{Found}
 use Rattle.meter.proofs.Plainly.{calls-told, leaves}
 use Rattle.choosing.proofs.look.Found as U
 use Rattle.choosing.proofs.look.Found.Laws as U′
-use Rattle.exchange.proofs.table.find_from as g
-use Rattle.exchange.proofs.table.find_from.Symbol as g-def
-use Rattle.exchange.proofs.table.find_from.Symbol.{name as #g}
-use Rattle.exchange.proofs.table.find_from.Met as g-thm
-use Rattle.exchange.proofs.table.find.Key.{name as #f}
-use Rattle.exchange.proofs.table.find as f
-use Rattle.exchange.proofs.table.find.Statement as stated
-use Rattle.exchange.proofs.table.find.Code as code
+use Rattle.table.proofs.find_from as g
+use Rattle.table.proofs.find_from.Symbol as g-def
+use Rattle.table.proofs.find_from.Symbol.{name as #g}
+use Rattle.table.proofs.find_from.Met as g-thm
+use Rattle.table.proofs.find.Key.{name as #f}
+use Rattle.table.proofs.find as f
+use Rattle.table.proofs.find.Statement as stated
+use Rattle.table.proofs.find.Code as code
 
 abbrev stayed : Stays (f.ended .signature .params) (f.ended .kept)
 stayed = (stay-dropped (shrSliceOf (0 ∷ []) tt (plain (λ _. T.the-row))) yes, (stay-dropped (plain (λ _. u16)) yes, tt))
@@ -119,4 +119,4 @@ find-spec 𝓤 H 𝓜 𝓖 𝓡 =
     entered 𝓤 H (tripleOf 𝓤 H (𝓖 .A) f.signature (f.spec 𝓤 H (𝓖 .A) (𝓜 .mem) (𝓡 .run)))
     (tables 𝓤 H 𝓜 𝓡 code.env .C) (tables 𝓤 H 𝓜 𝓡 code.env .Λ) #f code.function (code.unfolded 𝓤 H 𝓜 𝓡)
     (meets 𝓤 H (𝓖 .A) (givenOf 𝓤 H 𝓜 𝓖) (𝓜 .mem) (𝓡 .run) (tablesOf 𝓤 H 𝓜 (tables 𝓤 H 𝓜 𝓡 code.env))
-    (cited 𝓤 H (G 𝓤 H (𝓖 .A) (𝓜 .mem) (𝓡 .run)) 𝓜 𝓡 code.env #g g-def.routine code.calls-exchange·table·find-from (g-thm.met 𝓤 H 𝓜 𝓖 𝓡)))
+    (cited 𝓤 H (G 𝓤 H (𝓖 .A) (𝓜 .mem) (𝓡 .run)) 𝓜 𝓡 code.env #g g-def.routine code.calls-table·find-from (g-thm.met 𝓤 H 𝓜 𝓖 𝓡)))

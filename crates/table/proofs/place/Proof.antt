@@ -1,5 +1,5 @@
--- `exchange::table::place` meets its contract: a walk of its MIR, by hand. The loop's index has what is known where the loop's test is reached: that what is to be found from there is what is to be found at all.
--- A turn copies what the slice reference owns, calls `get` and `is_free`, and returns, or goes on at the next index. The slice itself is never looked into here.
+-- `table::place` meets its contract: a walk of its MIR, by hand. The loop's index has what is known where the loop's test is reached: that what is to be found from there is what is to be found at all.
+-- A turn copies what the slice reference owns, calls `call_at` and `is_free`, and returns, or goes on at the next index. The slice itself is never looked into here.
 -- Assumes nothing.
 use mathlib.Core.Path.{_≡_, refl, sym, _∙_, ap, subst}
 use Prim.Native.Nat.{ℕ, zero, suc, _+_, _-_, _<_, _≤_, _^_}
@@ -23,7 +23,7 @@ use prog.Wp.{Heap, Out, Env, Calls, Loops, Wp, WpFn, Tables, afterSeq, afterBloc
 use ghost.Atoms.{Atoms, sem}
 use contract.Monad.{Fun, factI}
 use contract.Running.{givenOf, tables, tablesOf}
-use types.Kit.{Given, Item, Sq, runs, anyQ, atRet, ‵, raw, _⊛_, ⋆, _$_, _∵_, !, qed, by, move, keep, drop, use1, use2, split, join, rewrite, fsplit, fjoin, frame, done}
+use types.Kit.{Given, Item, Sq, runs, anyQ, atRet, ‵, raw, _⊛_, ⋆, _$_, _∵_, !, qed, by, move, keep, drop, use1, use2, split, join, rewrite, fsplit, fjoin, done}
 use types.Run.{look, store, init, forget, stop, fld, from, load, lit, of-opd, bin, and-then, no-more, assigns, assigns-last, land, first, blocks, branches, stays, leaves-loop, exec, returns, returns-within, Below, again, loops, enter, alloc1, alloc0, params1, pass1, pass0, free1, free0}
 use types.Part.{agg, whole, sub, look-in}
 use sound.WpLaws.{FmC, fmOf, WpFn-mono}
@@ -44,34 +44,34 @@ use denote.Triple.Entry.{onEntry}
 use denote.Triple.Spec.{Meets, tripleOf}
 use denote.Triple.Statement.{Contract, Triple}
 use denote.Triple.Table.{entered, cited}
-use denote.Triple.Walked.{says, Stays, stay-dropped, walkOf, goes-dropped, walked, walk-meets}
+use denote.Triple.Walked.{Stays, stay-dropped, walkOf, goes-dropped, walked, walk-meets}
 use denote.Exit.{yes}
 use Rattle.call.specs.declared.Call.{Call}
 use Rattle.call.specs.Sound.{freshCall}
 use Rattle.call.proofs.Call as T
 use Rattle.call.proofs.Call.Laws as T′
 use Rattle.choosing.specs.Look.{freeOf}
-use Rattle.exchange.specs.Table.{placeFrom}
+use Rattle.table.specs.Table.{placeFrom}
 use Rattle.choosing.specs.declared.look.Found.{Found}
 use Rattle.choosing.specs.declared.look.Found.the-variants.{At, Nothing}
-use Rattle.exchange.proofs.Arms.{skips-to}
+use Rattle.table.proofs.Arms.{skips-to}
 use Rattle.meter.proofs.Plainly.{pre-plain, calls-told, calls-plain, leaves}
-use Rattle.exchange.proofs.Along.{one-more, dropped}
+use Rattle.table.proofs.Along.{one-more, dropped}
 use Rattle.choosing.proofs.look.Found as U
 use Rattle.choosing.proofs.look.Found.Laws as U′
-use Rattle.exchange.proofs.table.get as g
-use Rattle.exchange.proofs.table.get.Symbol as g-def
-use Rattle.exchange.proofs.table.get.Symbol.{name as #g}
-use Rattle.exchange.proofs.table.get.Met as g-thm
+use Rattle.table.proofs.call_at as g
+use Rattle.table.proofs.call_at.Symbol as g-def
+use Rattle.table.proofs.call_at.Symbol.{name as #g}
+use Rattle.table.proofs.call_at.Met as g-thm
 use Rattle.choosing.proofs.look.is_free as p
 use Rattle.choosing.proofs.look.is_free.Symbol as p-def
 use Rattle.choosing.proofs.look.is_free.Symbol.{name as #p}
 use Rattle.choosing.proofs.look.is_free.Met as p-thm
-use Rattle.exchange.proofs.table.place.Key.{name as #f}
-use Rattle.exchange.proofs.table.place as f
-use Rattle.exchange.proofs.table.place.Statement as stated
-use Rattle.exchange.proofs.table.place.Code as code
-use Rattle.exchange.proofs.table.place.Code.Mir as body
+use Rattle.table.proofs.place.Key.{name as #f}
+use Rattle.table.proofs.place as f
+use Rattle.table.proofs.place.Statement as stated
+use Rattle.table.proofs.place.Code as code
+use Rattle.table.proofs.place.Code.Mir as body
 
 abbrev stayed : Stays (f.ended .signature .params) (f.ended .kept)
 stayed = (stay-dropped (shrSliceOf (0 ∷ []) tt (plain (λ _. T.the-row))) yes, tt)
@@ -132,9 +132,9 @@ module _ {M : Type 1} (𝓤 : URA M) (H : Heap 𝓤) (A : Atoms 𝓤) (W : Given
   abbrev to-g : ℕ → Bound 𝓤 H A g.signature
   to-g i = ((κ, tt), (q, tt), tt, (x, (i, tt)), (sliceVal (b, o) n ∷ [], (vint w64 i ∷ [], tt)))
 
-  goes-g : (i : ℕ) → i < 2 ^ 64 → i < n → ent 𝓤 (sep 𝓤 (sem 𝓤 H A (ShrSlice (named 0) κ T.the-row .own x (sliceVal (b, o) n ∷ []))) (sep 𝓤 (A .lft κ q) (emp 𝓤))) (G 𝓤 H A at-mem run .pre (to-g i, tt))
-  goes-g i gi l = qed W (‵ (ShrSlice (named 0) κ T.the-row .own x (sliceVal (b, o) n ∷ [])) ∷ (‵ (flft κ q) ⊛ ‵ ftrue) ∷ []) ∵ says ! l $ move ! (1 ∷ 0 ∷ []) $ frame ! $
-      nothing ! $ owned ! usize (Is usize) (uint-makes 𝓤 H A W w64) i _ (refl, gi) $ fjoin ! $ move ! (1 ∷ 0 ∷ []) $ fjoin ! $ done !
+  goes-g : (i : ℕ) → i < 2 ^ 64 → ent 𝓤 (sep 𝓤 (sem 𝓤 H A (ShrSlice (named 0) κ T.the-row .own x (sliceVal (b, o) n ∷ []))) (sep 𝓤 (A .lft κ q) (emp 𝓤))) (G 𝓤 H A at-mem run .pre (to-g i, tt))
+  goes-g i gi = qed W (‵ (ShrSlice (named 0) κ T.the-row .own x (sliceVal (b, o) n ∷ [])) ∷ (‵ (flft κ q) ⊛ ‵ ftrue) ∷ []) ∵
+      nothing ! $ owned ! usize (Is usize) (uint-makes 𝓤 H A W w64) i _ (refl, gi) $ fjoin ! $ move ! (1 ∷ 0 ∷ []) $ fjoin ! $ move ! (1 ∷ 0 ∷ []) $ join ! $ nothing ! $ move ! (1 ∷ 0 ∷ []) $ done !
 
   abbrev to-p : Call → Bound 𝓤 H A p.signature
   to-p c = (tt, tt, tt, (c, tt), (val c ∷ [], tt))
@@ -181,9 +181,9 @@ module _ {M : Type 1} (𝓤 : URA M) (H : Heap 𝓤) (A : Atoms 𝓤) (W : Given
           assigns ! (of-opd ! (load ! (from ! (fld ! refl (stop !))) (look-in ! 5 (sub ! 1 refl (whole !))))) (from ! (stop !)) (init ! 2 refl (tt, record { fits = room .0 })) $
           assigns ! (bin ! (load ! (from ! (stop !)) (look ! 0 refl)) (load ! (from ! (stop !)) (look ! 2 refl)) tt) (from ! (stop !)) (init ! 3 refl (tt, tt)) $
           rewrite ! 3 (λ (t : Bool). ‵ (fat fullShare tyBool l₅ 0 (vbool t))) e refl $ stays ! (load ! (from ! (stop !)) (look ! 3 refl)) $
-          -- what the slice reference owns goes to `get`, and a copy of it stays
+          -- what the slice reference owns goes to `call_at`, and a copy of it stays
           move ! (8 ∷ []) $ use1 W (‵ (ShrSlice (named 0) κ T.the-row .own x (sliceVal (b, o) n ∷ [])) ⊛ ‵ (ShrSlice (named 0) κ T.the-row .own x (sliceVal (b, o) n ∷ []))) (shr-slice-copy 𝓤 H A W (named 0) κ T.the-row .twice x _) $ split ! $
-          move ! (0 ∷ 9 ∷ []) $ use2 W (raw (G 𝓤 H A at-mem run .pre (to-g (h .0), tt))) (goes-g (h .0) i-fits small) $
+          move ! (0 ∷ 9 ∷ []) $ use2 W (raw (G 𝓤 H A at-mem run .pre (to-g (h .0), tt))) (goes-g (h .0) i-fits) $
           calls-told ! (fmOf 𝓤 H (W .laws) 𝓣) g.ended (g.clauses 𝓤 H A at-mem run) known-g (to-g (h .0)) tt (λ r. r ≡ getD ys (h .0) freshCall) (λ r ws. id⊢ 𝓤 _) val (LL.tells T.the-type T′.the-laws)
           (and-then ! (load ! (from ! (stop !)) (look ! 7 refl)) (and-then ! (load ! (from ! (stop !)) (look ! 2 refl)) (no-more !))) (λ c ec isc.
           use1 W (‵ (flft κ q) ⊛ ‵ ftrue) (id⊢ 𝓤 _) $ land ! (from ! (stop !)) (init ! 3 refl (LL.lawful T.the-type T′.the-laws 𝓤 H A W .typed c _ isc .0)) $
@@ -272,5 +272,5 @@ place-spec 𝓤 H 𝓜 𝓖 𝓡 =
     entered 𝓤 H (tripleOf 𝓤 H (𝓖 .A) f.signature (f.spec 𝓤 H (𝓖 .A) (𝓜 .mem) (𝓡 .run)))
     (tables 𝓤 H 𝓜 𝓡 code.env .C) (tables 𝓤 H 𝓜 𝓡 code.env .Λ) #f code.function (code.unfolded 𝓤 H 𝓜 𝓡)
     (meets 𝓤 H (𝓖 .A) (givenOf 𝓤 H 𝓜 𝓖) (𝓜 .mem) (𝓡 .run) (tablesOf 𝓤 H 𝓜 (tables 𝓤 H 𝓜 𝓡 code.env))
-    (cited 𝓤 H (G 𝓤 H (𝓖 .A) (𝓜 .mem) (𝓡 .run)) 𝓜 𝓡 code.env #g g-def.routine code.calls-exchange·table·get (g-thm.met 𝓤 H 𝓜 𝓖 𝓡))
+    (cited 𝓤 H (G 𝓤 H (𝓖 .A) (𝓜 .mem) (𝓡 .run)) 𝓜 𝓡 code.env #g g-def.routine code.calls-table·call-at (g-thm.met 𝓤 H 𝓜 𝓖 𝓡))
     (cited 𝓤 H (P 𝓤 H (𝓖 .A) (𝓜 .mem) (𝓡 .run)) 𝓜 𝓡 code.env #p p-def.routine code.calls-choosing·look·is-free (p-thm.met 𝓤 H 𝓜 𝓖 𝓡)))

@@ -1,4 +1,4 @@
--- `exchange::table::sound` meets its contract: a walk of its MIR, by hand. A table that is not too long goes to `calls_sound`.
+-- `table::sound` meets its contract: a walk of its MIR, by hand. A table that is not too long goes to `calls_sound`.
 -- Assumes nothing.
 use mathlib.Core.Path.{_≡_, refl}
 use Prim.Native.Nat.{ℕ}
@@ -36,18 +36,18 @@ use denote.Triple.Walked.{Stays, stay-dropped, walkOf, goes-dropped, walked, wal
 use denote.Exit.{yes}
 use Rattle.call.specs.declared.Call.{Call}
 use Rattle.call.proofs.Call as T
-use Rattle.exchange.specs.Table.{greatestTable, callsSound, tableSound}
-use Rattle.exchange.proofs.Arms.{assigns-on}
+use Rattle.table.specs.Table.{greatestTable, callsSound, tableSound}
+use Rattle.table.proofs.Arms.{assigns-on}
 use Rattle.meter.proofs.Plainly.{calls-told, leaves}
-use Rattle.exchange.proofs.table.calls_sound as g
-use Rattle.exchange.proofs.table.calls_sound.Symbol as g-def
-use Rattle.exchange.proofs.table.calls_sound.Symbol.{name as #g}
-use Rattle.exchange.proofs.table.calls_sound.Met as g-thm
-use Rattle.exchange.proofs.table.sound.Key.{name as #f}
-use Rattle.exchange.proofs.table.sound as f
-use Rattle.exchange.proofs.table.sound.Statement as stated
-use Rattle.exchange.proofs.table.sound.Code as code
-use Rattle.exchange.proofs.table.sound.Code.Mir as body
+use Rattle.table.proofs.calls_sound as g
+use Rattle.table.proofs.calls_sound.Symbol as g-def
+use Rattle.table.proofs.calls_sound.Symbol.{name as #g}
+use Rattle.table.proofs.calls_sound.Met as g-thm
+use Rattle.table.proofs.sound.Key.{name as #f}
+use Rattle.table.proofs.sound as f
+use Rattle.table.proofs.sound.Statement as stated
+use Rattle.table.proofs.sound.Code as code
+use Rattle.table.proofs.sound.Code.Mir as body
 
 abbrev stayed : Stays (f.ended .signature .params) (f.ended .kept)
 stayed = (stay-dropped (shrSliceOf (0 ∷ []) tt (plain (λ _. T.the-row))) yes, tt)
@@ -143,4 +143,4 @@ sound-spec 𝓤 H 𝓜 𝓖 𝓡 =
     entered 𝓤 H (tripleOf 𝓤 H (𝓖 .A) f.signature (f.spec 𝓤 H (𝓖 .A) (𝓜 .mem) (𝓡 .run)))
     (tables 𝓤 H 𝓜 𝓡 code.env .C) (tables 𝓤 H 𝓜 𝓡 code.env .Λ) #f code.function (code.unfolded 𝓤 H 𝓜 𝓡)
     (meets 𝓤 H (𝓖 .A) (givenOf 𝓤 H 𝓜 𝓖) (𝓜 .mem) (𝓡 .run) (tablesOf 𝓤 H 𝓜 (tables 𝓤 H 𝓜 𝓡 code.env))
-    (cited 𝓤 H (G 𝓤 H (𝓖 .A) (𝓜 .mem) (𝓡 .run)) 𝓜 𝓡 code.env #g g-def.routine code.calls-exchange·table·calls-sound (g-thm.met 𝓤 H 𝓜 𝓖 𝓡)))
+    (cited 𝓤 H (G 𝓤 H (𝓖 .A) (𝓜 .mem) (𝓡 .run)) 𝓜 𝓡 code.env #g g-def.routine code.calls-table·calls-sound (g-thm.met 𝓤 H 𝓜 𝓖 𝓡)))

@@ -1,10 +1,9 @@
 // A lent table of call records: looked through, and found sound or not.
 ghost use mathlib.Core.Path.{_≡_};
 ghost use mathlib.Core.Bool.{cond};
-ghost use Prim.Native.Nat.{_<_};
-ghost use lib.ListN.{length, getD, drop};
+ghost use lib.ListN.{getD, drop};
 ghost use Rattle.call.specs.Sound.{freshCall};
-ghost use Rattle.exchange.specs.Table.{findFrom, placeFrom, callsSound, tableSound};
+ghost use Rattle.table.specs.Table.{findFrom, placeFrom, callsSound, tableSound};
 use call::Call;
 use choosing::look::Found;
 use choosing::look::at_fault;
@@ -15,11 +14,16 @@ use choosing::look::later;
 // Records that a table has at most.
 pub const GREATEST_TABLE: usize = 32;
 
-pub(crate) fn get(t: &[Call], i: usize) -> Call
-    requires { ⌜ i < length (now t) ⌝ }
+// The record at a place; a fresh one where the table has none.
+pub fn call_at(t: &[Call], i: usize) -> Call
     ensures { λ r. ⌜ r ≡ getD (now (t .entry)) i freshCall ⌝ }
 {
-    t[i]
+    if i < t.len() {
+        t[i]
+    } else {
+        let c = Call::fresh();
+        c
+    }
 }
 
 fn find_from(t: &[Call], start: usize, reference: u16) -> Found
@@ -27,7 +31,7 @@ fn find_from(t: &[Call], start: usize, reference: u16) -> Found
 {
     let mut i: usize = start;
     while i < t.len() {
-        let c = get(t, i);
+        let c = call_at(t, i);
         if is_live_as(c, reference) {
             return Found::At(i);
         }
@@ -50,7 +54,7 @@ pub fn place(t: &[Call]) -> Found
 {
     let mut i: usize = 0;
     while i < t.len() {
-        let c = get(t, i);
+        let c = call_at(t, i);
         if is_free(c) {
             return Found::At(i);
         }
@@ -64,7 +68,7 @@ fn calls_sound(t: &[Call]) -> bool
 {
     let mut i: usize = 0;
     while i < t.len() {
-        let c = get(t, i);
+        let c = call_at(t, i);
         let next = i + 1;
         let start = later(c, next, t.len());
         let f = find_from(t, start, c.reference);

@@ -10,9 +10,9 @@ use Rattle.call.specs.declared.Call.{Call}
 use Rattle.call.specs.Sound.{freshCall, soundOf}
 use Rattle.rules.specs.Phase.{liveOf}
 use Rattle.choosing.specs.Look.{liveAs, isAt, laterOf, faultOf}
-use Rattle.exchange.specs.Table.{findFrom, heldIn, callsSound}
+use Rattle.table.specs.Table.{findFrom, heldIn, callsSound}
 use Rattle.choosing.specs.declared.look.Found.{Found}
-use Rattle.exchange.proofs.Along.{one-more, dropped}
+use Rattle.table.proofs.Along.{one-more, dropped}
 
 -- a record is found exactly if there is one
 one-held : (t : Bool) (i : ℕ) (r : Found) (s : Bool) → isAt r ≡ s → isAt (cond t (Found.At i) r) ≡ t || s

@@ -1,0 +1,4 @@
+pub mod Rows
+pub mod Arms
+pub mod Along
+pub mod Searched
