@@ -1,4 +1,5 @@
 pub mod Rows
 pub mod Arms
+pub mod Ends
 pub mod Along
 pub mod Searched

@@ -1,6 +1,5 @@
 // A lent table of call records: looked through, and found sound or not.
 ghost use mathlib.Core.Path.{_≡_};
-ghost use mathlib.Core.Bool.{cond};
 ghost use lib.ListN.{getD, drop};
 ghost use Rattle.call.specs.Sound.{freshCall};
 ghost use Rattle.table.specs.Table.{findFrom, placeFrom, callsSound, tableSound};

@@ -21,7 +21,7 @@ use ghost.Atoms.{Atoms, sem}
 use contract.Monad.{Fun, factI}
 use contract.Running.{givenOf, tables, tablesOf}
 use types.Kit.{Given, Item, Sq, runs, anyQ, atRet, ‵, raw, some, later, _⊛_, ⋆, _$_, _∵_, !, qed, by, move, keep, drop, use1, use2, use3, split, join, pick, rewrite, fsplit, fjoin, feqL, frame, await, done}
-use types.Run.{look, store, init, forget, stop, hop, fld, from, load, of-opd, addr, and-then, no-more, assigns, assigns-last, land, first, blocks, stays, leaves-loop, exec, returns, Below, again, loops, enter, alloc1, alloc0, params1, pass1, pass0, free1, free0}
+use types.Run.{look, store, init, stop, hop, fld, from, load, of-opd, addr, and-then, no-more, assigns, assigns-last, land, first, blocks, stays, leaves-loop, exec, returns, Below, again, loops, enter, alloc1, alloc0, params1, pass1, pass0}
 use types.Part.{agg, whole, sub, look-in}
 use types.Tokens.{lft-new, lft-end}
 use sound.WpLaws.{FmC, fmOf, WpFn-mono}
@@ -57,6 +57,7 @@ use Rattle.settling.proofs.plan.Looked as K
 use Rattle.settling.proofs.plan.Looked.Laws as K′
 use Rattle.settling.proofs.plan.Put as Q
 use Rattle.settling.proofs.plan.Put.Laws as Q′
+use Rattle.table.proofs.Ends.{full, forgets, frees-all}
 use Rattle.meter.proofs.Plainly.{pre-plain, calls-lasts, calls-told, calls-plain, leaves}
 use Rattle.fronts.specs.declared.Front.{Front}
 use Rattle.rerun.specs.declared.Move.{Move}
@@ -387,7 +388,7 @@ module _ {M : Type 1} (𝓤 : URA M) (H : Heap 𝓤) (A : Atoms 𝓤) (W : Given
           calls-plain ! (fmOf 𝓤 H (W .laws) 𝓣) st.ended (st.clauses 𝓤 H A at-mem run) known-st (to-st m) tt (goes-st m ism) (λ w. w ≡ m .stand) (λ _ ws. id⊢ 𝓤 _) sval (LL.tells S.the-type S′.the-laws) (and-then ! (load ! (from ! (stop !)) (look ! 27 refl)) (no-more !)) (λ w ew isw.
           land ! (from ! (stop !)) (init ! 22 refl (LL.lawful S.the-type S′.the-laws 𝓤 H A W .typed w _ isw .0)) $
           assigns-last ! (of-opd ! (load ! (from ! (stop !)) (look ! 22 refl))) (from ! (stop !)) (store ! 36 refl (LL.lawful S.the-type S′.the-laws 𝓤 H A W .typed w _ isw .0)) $
-          forget ! 6 refl $ forget ! 8 refl $ forget ! 10 refl $ forget ! 12 refl $ forget ! 14 refl $ forget ! 16 refl $ forget ! 18 refl $ forget ! 20 refl $ forget ! 22 refl $ forget ! 24 refl $ forget ! 26 refl $ forget ! 28 refl $ forget ! 30 refl $ forget ! 32 refl $ forget ! 34 refl $
+          forgets ! (6 ∷ 8 ∷ 10 ∷ 12 ∷ 14 ∷ 16 ∷ 18 ∷ 20 ∷ 22 ∷ 24 ∷ 26 ∷ 28 ∷ 30 ∷ 32 ∷ 34 ∷ []) (full, (full, (full, (full, (full, (full, (full, (full, (full, (full, (full, (full, (full, (full, (full, tt))))))))))))))) $
           again ! ≺ I h (onto f ef r (er ∙ (λ j. lookOf (h .table) (ek j) (ev′ j))) m (ws .1 .1 .1 .1 .0) em p ep (us .0) eu w ew isw .0) (onto f ef r (er ∙ (λ j. lookOf (h .table) (ek j) (ev′ j))) m (ws .1 .1 .1 .1 .0) em p ep (us .0) eu w ew isw .1))))))))))))))))))
         where
           within : (f : Front) → f ≡ frontOf last (dropL (h .stand .used) es) → h .stand .used + sizeIn f ≤ length es
@@ -408,8 +409,8 @@ module _ {M : Type 1} (𝓤 : URA M) (H : Heap 𝓤) (A : Atoms 𝓤) (W : Given
           calls-plain ! (fmOf 𝓤 H (W .laws) 𝓣) go.ended (go.clauses 𝓤 H A at-mem run) known-go (to-go (h .stand)) tt (goes-go (h .stand) (h .typed)) (λ t. t ≡ h .stand .more) (λ _ ws. id⊢ 𝓤 _) vbool bool-tells (and-then ! (load ! (from ! (stop !)) (look ! 37 refl)) (no-more !)) (λ t et _.
           land ! (from ! (stop !)) (init ! 20 refl (tt, tt)) $ rewrite ! 20 (λ (v : Bool). ‵ (fat fullShare tyBool l₁₄ 0 (vbool v))) (et ∙ e) refl $ leaves-loop ! (load ! (from ! (stop !)) (look ! 20 refl)) $ exec ! C Λ Locals body.t-3 (atRet Locals Post) $
           assigns ! (of-opd ! (load ! (from ! (stop !)) (look ! 36 refl))) (from ! (stop !)) (init ! 48 refl (LL.lawful S.the-type S′.the-laws 𝓤 H A W .typed (h .stand) _ (h .typed) .0)) $
-          returns ! (look ! 48 refl) $ forget ! 20 refl $ forget ! 36 refl $ forget ! 38 refl $ forget ! 40 refl $ forget ! 42 refl $ forget ! 44 refl $ forget ! 46 refl $ forget ! 48 refl $
-          move ! (48 ∷ 49 ∷ []) $ free1 ! $ move ! (46 ∷ 47 ∷ []) $ free1 ! $ move ! (44 ∷ 45 ∷ []) $ free1 ! $ move ! (42 ∷ 43 ∷ []) $ free1 ! $ move ! (40 ∷ 41 ∷ []) $ free1 ! $ move ! (38 ∷ 39 ∷ []) $ free1 ! $ move ! (36 ∷ 37 ∷ []) $ free1 ! $ move ! (34 ∷ 35 ∷ []) $ free1 ! $ move ! (32 ∷ 33 ∷ []) $ free1 ! $ move ! (30 ∷ 31 ∷ []) $ free1 ! $ move ! (28 ∷ 29 ∷ []) $ free1 ! $ move ! (26 ∷ 27 ∷ []) $ free1 ! $ move ! (24 ∷ 25 ∷ []) $ free1 ! $ move ! (22 ∷ 23 ∷ []) $ free1 ! $ move ! (20 ∷ 21 ∷ []) $ free1 ! $ move ! (18 ∷ 19 ∷ []) $ free1 ! $ move ! (16 ∷ 17 ∷ []) $ free1 ! $ move ! (14 ∷ 15 ∷ []) $ free1 ! $ move ! (12 ∷ 13 ∷ []) $ free1 ! $ move ! (10 ∷ 11 ∷ []) $ free1 ! $ move ! (8 ∷ 9 ∷ []) $ free1 ! $ move ! (6 ∷ 7 ∷ []) $ free1 ! $ free0 ! $
+          returns ! (look ! 48 refl) $ forgets ! (20 ∷ 36 ∷ 38 ∷ 40 ∷ 42 ∷ 44 ∷ 46 ∷ 48 ∷ []) (full, (full, (full, (full, (full, (full, (full, (full, tt)))))))) $
+          move ! (48 ∷ 49 ∷ 46 ∷ 47 ∷ 44 ∷ 45 ∷ 42 ∷ 43 ∷ 40 ∷ 41 ∷ 38 ∷ 39 ∷ 36 ∷ 37 ∷ 34 ∷ 35 ∷ 32 ∷ 33 ∷ 30 ∷ 31 ∷ 28 ∷ 29 ∷ 26 ∷ 27 ∷ 24 ∷ 25 ∷ 22 ∷ 23 ∷ 20 ∷ 21 ∷ 18 ∷ 19 ∷ 16 ∷ 17 ∷ 14 ∷ 15 ∷ 12 ∷ 13 ∷ 10 ∷ 11 ∷ 8 ∷ 9 ∷ 6 ∷ 7 ∷ []) $ frees-all ! $
           split ! $ move ! (6 ∷ 1 ∷ []) $ join ! $ move ! (1 ∷ 0 ∷ []) $ join ! $ move ! (3 ∷ 0 ∷ []) $ join ! $ keep ! (0 ∷ 2 ∷ 3 ∷ []) $
           move ! (2 ∷ []) $ nothing ! $ move ! (1 ∷ 0 ∷ []) $ fjoin ! $ nothing ! $ fjoin ! $ nothing ! $ fjoin ! $ nothing ! $ fjoin ! $ move ! (2 ∷ 0 ∷ []) $ fjoin ! $ move ! (1 ∷ 0 ∷ []) $
           by ! (exits (h .stand) (h .table) (h .out) (h .typed) (h .kept .same) (h .kept .long) (h .kept .over e, e)))

@@ -24,7 +24,7 @@ use ghost.Atoms.{Atoms, sem}
 use contract.Monad.{Fun, factI}
 use contract.Running.{givenOf, tables, tablesOf}
 use types.Kit.{Given, Item, Sq, runs, anyQ, atRet, ‵, raw, _⊛_, ⋆, _$_, _∵_, !, qed, by, move, keep, drop, use1, use2, split, join, rewrite, fsplit, fjoin, done}
-use types.Run.{look, store, init, forget, stop, fld, from, load, lit, true-lit, false-lit, of-opd, bin, and-then, no-more, assigns, assigns-last, land, first, blocks, branches, stays, leaves-loop, exec, returns, returns-within, Below, again, loops, enter, alloc1, alloc0, params1, pass1, pass0, free1, free0}
+use types.Run.{look, store, init, stop, fld, from, load, lit, true-lit, false-lit, of-opd, bin, and-then, no-more, assigns, assigns-last, land, first, blocks, branches, stays, leaves-loop, exec, returns, returns-within, Below, again, loops, enter, alloc1, alloc0, params1, pass1, pass0}
 use types.Part.{whole, sub, look-in}
 use sound.WpLaws.{FmC, fmOf, WpFn-mono}
 use borrow.Author.Tests.{ltb-true, ltb-false}
@@ -55,6 +55,7 @@ use Rattle.choosing.specs.Look.{laterOf, faultOf}
 use Rattle.table.specs.Table.{findFrom, heldIn, callsSound}
 use Rattle.choosing.specs.declared.look.Found.{Found}
 use Rattle.table.proofs.Arms.{skips-to}
+use Rattle.table.proofs.Ends.{full, forgets, frees-all}
 use Rattle.meter.proofs.Plainly.{pre-plain, calls-told, calls-plain, leaves}
 use Rattle.table.proofs.Searched.{alone-at, sounds, fault-says, stops, goes-on}
 use Rattle.choosing.proofs.look.Found as U
@@ -220,14 +221,14 @@ module _ {M : Type 1} (𝓤 : URA M) (H : Heap 𝓤) (A : Atoms 𝓤) (W : Given
           -- it is at fault
           (λ yes′.
           assigns ! (of-opd ! (false-lit !)) (from ! (stop !)) (init ! 11 refl (tt, tt)) $
-          returns-within ! Post refl (look ! 11 refl) $ forget ! 2 refl $ forget ! 3 refl $ forget ! 4 refl $ forget ! 5 refl $ forget ! 6 refl $ forget ! 7 refl $ forget ! 8 refl $ forget ! 9 refl $ forget ! 10 refl $ forget ! 11 refl $
-          move ! (11 ∷ 12 ∷ []) $ free1 ! $ move ! (10 ∷ 11 ∷ []) $ free1 ! $ move ! (2 ∷ 10 ∷ []) $ free1 ! $ move ! (2 ∷ 9 ∷ []) $ free1 ! $ move ! (2 ∷ 8 ∷ []) $ free1 ! $ move ! (2 ∷ 7 ∷ []) $ free1 ! $ move ! (2 ∷ 6 ∷ []) $ free1 ! $ move ! (2 ∷ 5 ∷ []) $ free1 ! $ move ! (2 ∷ 4 ∷ []) $ free1 ! $ move ! (2 ∷ 3 ∷ []) $ free1 ! $ free0 ! $
+          returns-within ! Post refl (look ! 11 refl) $ forgets ! (2 ∷ 3 ∷ 4 ∷ 5 ∷ 6 ∷ 7 ∷ 8 ∷ 9 ∷ 10 ∷ 11 ∷ []) (full, (full, (full, (full, (full, (full, (full, (full, (full, (full, tt)))))))))) $
+          move ! (11 ∷ 12 ∷ 10 ∷ 13 ∷ 2 ∷ 14 ∷ 3 ∷ 15 ∷ 4 ∷ 16 ∷ 5 ∷ 17 ∷ 6 ∷ 18 ∷ 7 ∷ 19 ∷ 8 ∷ 20 ∷ 9 ∷ 21 ∷ []) $ frees-all ! $
           keep ! (0 ∷ []) $ nothing ! $ nothing ! $ fjoin ! $ move ! (1 ∷ 0 ∷ []) $
           by ! (exits false (there t c j r ec ej er et yes′)))
           -- it is not: on to the next
           (λ no′. skips-to ! steps (Turn h) $
           assigns-last ! (of-opd ! (load ! (from ! (stop !)) (look ! 4 refl))) (from ! (stop !)) (store ! 2 refl (tt, record { fits = next-fits })) $
-          forget ! 3 refl $ forget ! 4 refl $ forget ! 5 refl $ forget ! 6 refl $ forget ! 7 refl $ forget ! 8 refl $ forget ! 9 refl $ keep ! (2 ∷ 3 ∷ 4 ∷ 5 ∷ 6 ∷ 7 ∷ 8 ∷ 9 ∷ 10 ∷ 11 ∷ 0 ∷ 1 ∷ 12 ∷ 13 ∷ 14 ∷ 15 ∷ 16 ∷ 17 ∷ 18 ∷ 19 ∷ 20 ∷ 21 ∷ []) $
+          forgets ! (3 ∷ 4 ∷ 5 ∷ 6 ∷ 7 ∷ 8 ∷ 9 ∷ []) (full, (full, (full, (full, (full, (full, (full, tt))))))) $ keep ! (2 ∷ 3 ∷ 4 ∷ 5 ∷ 6 ∷ 7 ∷ 8 ∷ 9 ∷ 10 ∷ 11 ∷ 0 ∷ 1 ∷ 12 ∷ 13 ∷ 14 ∷ 15 ∷ 16 ∷ 17 ∷ 18 ∷ 19 ∷ 20 ∷ 21 ∷ []) $
           again ! ≺ I h (h .0 + 1, onward t c j r ec ej er et no′) (omega (arith, small)))))))
         where
           small : h .0 < n
@@ -260,8 +261,8 @@ module _ {M : Type 1} (𝓤 : URA M) (H : Heap 𝓤) (A : Atoms 𝓤) (W : Given
           assigns ! (bin ! (load ! (from ! (stop !)) (look ! 0 refl)) (load ! (from ! (stop !)) (look ! 5 refl)) tt) (from ! (stop !)) (init ! 6 refl (tt, tt)) $
           rewrite ! 6 (λ (t : Bool). ‵ (fat fullShare tyBool l₈ 0 (vbool t))) e refl $ leaves-loop ! (load ! (from ! (stop !)) (look ! 6 refl)) $ exec ! C Λ E body.t-3 (atRet E Post) $
           assigns ! (of-opd ! (true-lit !)) (from ! (stop !)) (init ! 9 refl (tt, tt)) $
-          returns ! (look ! 9 refl) $ forget ! 0 refl $ forget ! 5 refl $ forget ! 6 refl $ forget ! 8 refl $ forget ! 9 refl $
-          move ! (9 ∷ 12 ∷ []) $ free1 ! $ move ! (8 ∷ 11 ∷ []) $ free1 ! $ move ! (0 ∷ 10 ∷ []) $ free1 ! $ move ! (0 ∷ 9 ∷ []) $ free1 ! $ move ! (0 ∷ 8 ∷ []) $ free1 ! $ move ! (0 ∷ 7 ∷ []) $ free1 ! $ move ! (0 ∷ 6 ∷ []) $ free1 ! $ move ! (0 ∷ 5 ∷ []) $ free1 ! $ move ! (0 ∷ 4 ∷ []) $ free1 ! $ move ! (0 ∷ 3 ∷ []) $ free1 ! $ free0 ! $
+          returns ! (look ! 9 refl) $ forgets ! (0 ∷ 5 ∷ 6 ∷ 8 ∷ 9 ∷ []) (full, (full, (full, (full, (full, tt))))) $
+          move ! (9 ∷ 12 ∷ 8 ∷ 13 ∷ 0 ∷ 14 ∷ 1 ∷ 15 ∷ 2 ∷ 16 ∷ 3 ∷ 17 ∷ 4 ∷ 18 ∷ 5 ∷ 19 ∷ 6 ∷ 20 ∷ 7 ∷ 21 ∷ []) $ frees-all ! $
           keep ! (0 ∷ []) $ nothing ! $ nothing ! $ fjoin ! $ move ! (1 ∷ 0 ∷ []) $
           by ! (exits true (sym (ap callsSound (drop-of-length-le ys (ltb-false (h .0) n e))) ∙ h .1))
 

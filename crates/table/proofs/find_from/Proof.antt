@@ -24,7 +24,7 @@ use ghost.Atoms.{Atoms, sem}
 use contract.Monad.{Fun, factI}
 use contract.Running.{givenOf, tables, tablesOf}
 use types.Kit.{Given, Item, Sq, runs, anyQ, atRet, ‵, raw, _⊛_, ⋆, _$_, _∵_, !, qed, by, move, keep, drop, use1, use2, split, join, rewrite, fsplit, fjoin, done}
-use types.Run.{look, store, init, forget, stop, fld, from, load, lit, of-opd, bin, and-then, no-more, assigns, assigns-last, land, first, blocks, branches, stays, leaves-loop, exec, returns, returns-within, Below, again, loops, enter, alloc1, alloc0, params1, pass1, pass0, free1, free0}
+use types.Run.{look, store, init, stop, fld, from, load, lit, of-opd, bin, and-then, no-more, assigns, assigns-last, land, first, blocks, branches, stays, leaves-loop, exec, returns, returns-within, Below, again, loops, enter, alloc1, alloc0, params1, pass1, pass0}
 use types.Part.{agg, whole, sub, look-in}
 use sound.WpLaws.{FmC, fmOf, WpFn-mono}
 use borrow.Author.Tests.{ltb-true, ltb-false}
@@ -55,6 +55,7 @@ use Rattle.table.specs.Table.{findFrom}
 use Rattle.choosing.specs.declared.look.Found.{Found}
 use Rattle.choosing.specs.declared.look.Found.the-variants.{At, Nothing}
 use Rattle.table.proofs.Arms.{skips-to}
+use Rattle.table.proofs.Ends.{full, forgets, frees-all}
 use Rattle.meter.proofs.Plainly.{pre-plain, calls-told, calls-plain, leaves}
 use Rattle.table.proofs.Along.{one-more, dropped}
 use Rattle.choosing.proofs.look.Found as U
@@ -194,14 +195,14 @@ module _ {M : Type 1} (𝓤 : URA M) (H : Heap 𝓤) (A : Atoms 𝓤) (W : Given
           -- it is found
           (λ yes′.
           assigns ! (agg ! (and-then ! (lit ! tt) (and-then ! (load ! (from ! (stop !)) (look ! 2 refl)) (no-more !)))) (from ! (stop !)) (init ! 9 refl (LE.lawful U.the-type U′.the-laws 𝓤 H A W tt .typed (At (h .0)) _ made .0)) $
-          returns-within ! Post refl (look ! 9 refl) $ forget ! 2 refl $ forget ! 3 refl $ forget ! 4 refl $ forget ! 5 refl $ forget ! 6 refl $ forget ! 7 refl $ forget ! 8 refl $ forget ! 9 refl $ forget ! 10 refl $
-          move ! (9 ∷ 11 ∷ []) $ free1 ! $ move ! (7 ∷ 10 ∷ []) $ free1 ! $ move ! (8 ∷ 9 ∷ []) $ free1 ! $ move ! (7 ∷ 8 ∷ []) $ free1 ! $ move ! (2 ∷ 7 ∷ []) $ free1 ! $ move ! (2 ∷ 6 ∷ []) $ free1 ! $ move ! (2 ∷ 5 ∷ []) $ free1 ! $ move ! (2 ∷ 4 ∷ []) $ free1 ! $ move ! (2 ∷ 3 ∷ []) $ free1 ! $ free0 ! $
+          returns-within ! Post refl (look ! 9 refl) $ forgets ! (2 ∷ 3 ∷ 4 ∷ 5 ∷ 6 ∷ 7 ∷ 8 ∷ 9 ∷ 10 ∷ []) (full, (full, (full, (full, (full, (full, (full, (full, (full, tt))))))))) $
+          move ! (9 ∷ 11 ∷ 7 ∷ 12 ∷ 10 ∷ 13 ∷ 8 ∷ 14 ∷ 2 ∷ 15 ∷ 3 ∷ 16 ∷ 4 ∷ 17 ∷ 5 ∷ 18 ∷ 6 ∷ 19 ∷ []) $ frees-all ! $
           keep ! (0 ∷ []) $ nothing ! $ nothing ! $ fjoin ! $ nothing ! $ fjoin ! $ nothing ! $ fjoin ! $ move ! (1 ∷ 0 ∷ []) $
           by ! (exits (At (h .0)) (there t c ec et yes′) made))
           -- it is not: on to the next
           (λ no′. skips-to ! steps (Turn h) $
           assigns-last ! (bin ! (load ! (from ! (stop !)) (look ! 2 refl)) (lit ! tt) (record { fits = next-fits })) (from ! (stop !)) (store ! 2 refl (tt, record { fits = next-fits })) $
-          forget ! 3 refl $ forget ! 4 refl $ forget ! 5 refl $ forget ! 6 refl $ keep ! (2 ∷ 3 ∷ 4 ∷ 5 ∷ 6 ∷ 7 ∷ 8 ∷ 9 ∷ 0 ∷ 1 ∷ 10 ∷ 11 ∷ 12 ∷ 13 ∷ 14 ∷ 15 ∷ 16 ∷ 17 ∷ 18 ∷ 19 ∷ []) $
+          forgets ! (3 ∷ 4 ∷ 5 ∷ 6 ∷ []) (full, (full, (full, (full, tt)))) $ keep ! (2 ∷ 3 ∷ 4 ∷ 5 ∷ 6 ∷ 7 ∷ 8 ∷ 9 ∷ 0 ∷ 1 ∷ 10 ∷ 11 ∷ 12 ∷ 13 ∷ 14 ∷ 15 ∷ 16 ∷ 17 ∷ 18 ∷ 19 ∷ []) $
           again ! ≺ I h (h .0 + 1, onward t c ec et no′) (omega (arith, small)))))
         where
           small : h .0 < n
@@ -232,8 +233,8 @@ module _ {M : Type 1} (𝓤 : URA M) (H : Heap 𝓤) (A : Atoms 𝓤) (W : Given
           assigns ! (bin ! (load ! (from ! (stop !)) (look ! 0 refl)) (load ! (from ! (stop !)) (look ! 2 refl)) tt) (from ! (stop !)) (init ! 3 refl (tt, tt)) $
           rewrite ! 3 (λ (t : Bool). ‵ (fat fullShare tyBool l₇ 0 (vbool t))) e refl $ leaves-loop ! (load ! (from ! (stop !)) (look ! 3 refl)) $ exec ! C Λ E body.t-3 (atRet E Post) $
           assigns ! (agg ! (and-then ! (lit ! tt) (no-more !))) (from ! (stop !)) (init ! 7 refl (LE.lawful U.the-type U′.the-laws 𝓤 H A W tt .typed Nothing _ made .0)) $
-          returns ! (look ! 7 refl) $ forget ! 0 refl $ forget ! 2 refl $ forget ! 3 refl $ forget ! 5 refl $ forget ! 6 refl $ forget ! 7 refl $ forget ! 10 refl $
-          move ! (7 ∷ 11 ∷ []) $ free1 ! $ move ! (5 ∷ 10 ∷ []) $ free1 ! $ move ! (8 ∷ 9 ∷ []) $ free1 ! $ move ! (5 ∷ 8 ∷ []) $ free1 ! $ move ! (0 ∷ 7 ∷ []) $ free1 ! $ move ! (0 ∷ 6 ∷ []) $ free1 ! $ move ! (0 ∷ 5 ∷ []) $ free1 ! $ move ! (0 ∷ 4 ∷ []) $ free1 ! $ move ! (0 ∷ 3 ∷ []) $ free1 ! $ free0 ! $
+          returns ! (look ! 7 refl) $ forgets ! (0 ∷ 2 ∷ 3 ∷ 5 ∷ 6 ∷ 7 ∷ 10 ∷ []) (full, (full, (full, (full, (full, (full, (full, tt))))))) $
+          move ! (7 ∷ 11 ∷ 5 ∷ 12 ∷ 10 ∷ 13 ∷ 6 ∷ 14 ∷ 0 ∷ 15 ∷ 1 ∷ 16 ∷ 2 ∷ 17 ∷ 3 ∷ 18 ∷ 4 ∷ 19 ∷ []) $ frees-all ! $
           keep ! (0 ∷ []) $ nothing ! $ nothing ! $ fjoin ! $ nothing ! $ fjoin ! $ nothing ! $ fjoin ! $ move ! (1 ∷ 0 ∷ []) $
           by ! (exits Nothing (sym (ap (λ (cs : List Call). findFrom cs (h .0) k) (drop-of-length-le ys (ltb-false (h .0) n e))) ∙ h .1) made)
         where

@@ -18,7 +18,7 @@ use ghost.Atoms.{Atoms, sem}
 use contract.Monad.{Fun, factI}
 use contract.Running.{givenOf, tables, tablesOf}
 use types.Kit.{Given, ‵, raw, _⊛_, ⋆, _$_, _∵_, !, qed, by, move, keep, use1, use2, join, fsplit, fjoin, done}
-use types.Run.{look, init, forget, stop, fld, from, load, lit, false-lit, of-opd, bin, and-then, no-more, assigns, land, first, branches, returns, enter, alloc1, alloc0, params1, pass1, pass0, free1, free0}
+use types.Run.{look, init, stop, fld, from, load, lit, false-lit, of-opd, bin, and-then, no-more, assigns, land, first, branches, returns, enter, alloc1, alloc0, params1, pass1, pass0}
 use types.Part.{whole, sub, look-in}
 use sound.WpLaws.{FmC, fmOf, WpFn-mono}
 use denote.RattleType.{owns}
@@ -38,6 +38,7 @@ use Rattle.call.specs.declared.Call.{Call}
 use Rattle.call.proofs.Call as T
 use Rattle.table.specs.Table.{greatestTable, callsSound, tableSound}
 use Rattle.table.proofs.Arms.{assigns-on}
+use Rattle.table.proofs.Ends.{full, forgets, frees-all}
 use Rattle.meter.proofs.Plainly.{calls-told, leaves}
 use Rattle.table.proofs.calls_sound as g
 use Rattle.table.proofs.calls_sound.Symbol as g-def
@@ -119,14 +120,14 @@ module _ {M : Type 1} (𝓤 : URA M) (H : Heap 𝓤) (A : Atoms 𝓤) (W : Given
         use1 W (‵ (flft κ q) ⊛ ‵ ftrue) (id⊢ 𝓤 _) $ land ! (from ! (stop !)) (init ! 8 refl (tt, tt)) $
         assigns-on ! body.t-4 Post (of-opd ! (load ! (from ! (stop !)) (look ! 8 refl))) (from ! (stop !)) (init ! 2 refl (tt, tt)) $
         assigns ! (of-opd ! (load ! (from ! (stop !)) (look ! 2 refl))) (from ! (stop !)) (init ! 12 refl (tt, tt)) $
-        returns ! (look ! 12 refl) $ forget ! 2 refl $ forget ! 4 refl $ forget ! 6 refl $ forget ! 8 refl $ forget ! 10 refl $ forget ! 12 refl $
-        move ! (12 ∷ 13 ∷ []) $ free1 ! $ move ! (10 ∷ 11 ∷ []) $ free1 ! $ move ! (8 ∷ 9 ∷ []) $ free1 ! $ move ! (6 ∷ 7 ∷ []) $ free1 ! $ move ! (4 ∷ 5 ∷ []) $ free1 ! $ move ! (2 ∷ 3 ∷ []) $ free1 ! $ free0 ! $
+        returns ! (look ! 12 refl) $ forgets ! (2 ∷ 4 ∷ 6 ∷ 8 ∷ 10 ∷ 12 ∷ []) (full, (full, (full, (full, (full, (full, tt)))))) $
+        move ! (12 ∷ 13 ∷ 10 ∷ 11 ∷ 8 ∷ 9 ∷ 6 ∷ 7 ∷ 4 ∷ 5 ∷ 2 ∷ 3 ∷ []) $ frees-all ! $
         keep ! (0 ∷ []) $ nothing ! $ nothing ! $ fjoin ! $ move ! (1 ∷ 0 ∷ []) $ by ! (exits r (short-table ys r yes′ e))))
         -- it is too long
         (λ no′. assigns-on ! body.t-4 Post (of-opd ! (false-lit !)) (from ! (stop !)) (init ! 2 refl (tt, tt)) $
         assigns ! (of-opd ! (load ! (from ! (stop !)) (look ! 2 refl))) (from ! (stop !)) (init ! 12 refl (tt, tt)) $
-        returns ! (look ! 12 refl) $ forget ! 2 refl $ forget ! 4 refl $ forget ! 6 refl $ forget ! 10 refl $ forget ! 12 refl $
-        move ! (12 ∷ 13 ∷ []) $ free1 ! $ move ! (10 ∷ 11 ∷ []) $ free1 ! $ move ! (8 ∷ 9 ∷ []) $ free1 ! $ move ! (6 ∷ 7 ∷ []) $ free1 ! $ move ! (4 ∷ 5 ∷ []) $ free1 ! $ move ! (2 ∷ 3 ∷ []) $ free1 ! $ free0 ! $
+        returns ! (look ! 12 refl) $ forgets ! (2 ∷ 4 ∷ 6 ∷ 10 ∷ 12 ∷ []) (full, (full, (full, (full, (full, tt))))) $
+        move ! (12 ∷ 13 ∷ 10 ∷ 11 ∷ 8 ∷ 9 ∷ 6 ∷ 7 ∷ 4 ∷ 5 ∷ 2 ∷ 3 ∷ []) $ frees-all ! $
         keep ! (2 ∷ []) $ nothing ! $ nothing ! $ fjoin ! $ move ! (1 ∷ 0 ∷ []) $ by ! (exits false (long-table ys no′)))))))))
 
 meets : {M : Type 1} (𝓤 : URA M) (H : Heap 𝓤) (A : Atoms 𝓤) → Given 𝓤 H A → (mem : Memory → SProp 𝓤) (run : Routine → Fun 𝓤) (𝓣 : Tables 𝓤 H) → Triple 𝓤 (𝓣 .C #g) (G 𝓤 H A mem run) →

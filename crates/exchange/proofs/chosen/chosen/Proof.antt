@@ -17,7 +17,7 @@ use ghost.Atoms.{Atoms, sem}
 use contract.Monad.{Fun, factI}
 use contract.Running.{givenOf, tables, tablesOf}
 use types.Kit.{Given, ‵, raw, _⊛_, ⋆, _$_, _∵_, !, qed, by, move, keep, use1, use2, split, join, fsplit, fjoin, done}
-use types.Run.{look, init, forget, stop, from, load, of-opd, and-then, no-more, assigns, land, returns, enter, alloc1, alloc0, params1, pass1, pass0, free1, free0}
+use types.Run.{look, init, stop, from, load, of-opd, and-then, no-more, assigns, land, returns, enter, alloc1, alloc0, params1, pass1, pass0}
 use sound.WpLaws.{FmC, fmOf, WpFn-mono}
 use denote.RattleType.{owns}
 use denote.Laws.{Is}
@@ -45,6 +45,7 @@ use Rattle.exchange.specs.Chosen.{chosenOf}
 use Rattle.choosing.specs.Choice.{referenceOf, chooseOf}
 use Rattle.choosing.specs.declared.look.Found.{Found}
 use Rattle.choosing.specs.declared.choice.Choice.{Choice}
+use Rattle.table.proofs.Ends.{full, forgets, frees-all}
 use Rattle.meter.proofs.Plainly.{pre-plain, calls-told, calls-plain, leaves}
 use Rattle.choosing.proofs.look.Found as U
 use Rattle.choosing.proofs.look.Found.Laws as U′
@@ -187,8 +188,8 @@ module _ {M : Type 1} (𝓤 : URA M) (H : Heap 𝓤) (A : Atoms 𝓤) (W : Given
         (and-then ! (load ! (from ! (stop !)) (look ! 10 refl)) (and-then ! (load ! (from ! (stop !)) (look ! 14 refl)) (and-then ! (load ! (from ! (stop !)) (look ! 8 refl)) (and-then ! (load ! (from ! (stop !)) (look ! 6 refl)) (no-more !))))) (λ c ec isc.
         land ! (from ! (stop !)) (init ! 3 refl (LE.lawful R.the-type R′.the-laws 𝓤 H A W tt .typed c _ isc .0)) $
         assigns ! (of-opd ! (load ! (from ! (stop !)) (look ! 3 refl))) (from ! (stop !)) (init ! 19 refl (LE.lawful R.the-type R′.the-laws 𝓤 H A W tt .typed c _ isc .0)) $
-        returns ! (look ! 19 refl) $ forget ! 3 refl $ forget ! 5 refl $ forget ! 7 refl $ forget ! 9 refl $ forget ! 11 refl $ forget ! 13 refl $ forget ! 15 refl $ forget ! 17 refl $ forget ! 19 refl $
-        move ! (19 ∷ 20 ∷ []) $ free1 ! $ move ! (17 ∷ 18 ∷ []) $ free1 ! $ move ! (15 ∷ 16 ∷ []) $ free1 ! $ move ! (13 ∷ 14 ∷ []) $ free1 ! $ move ! (11 ∷ 12 ∷ []) $ free1 ! $ move ! (9 ∷ 10 ∷ []) $ free1 ! $ move ! (7 ∷ 8 ∷ []) $ free1 ! $ move ! (5 ∷ 6 ∷ []) $ free1 ! $ move ! (3 ∷ 4 ∷ []) $ free1 ! $ free0 ! $
+        returns ! (look ! 19 refl) $ forgets ! (3 ∷ 5 ∷ 7 ∷ 9 ∷ 11 ∷ 13 ∷ 15 ∷ 17 ∷ 19 ∷ []) (full, (full, (full, (full, (full, (full, (full, (full, (full, tt))))))))) $
+        move ! (19 ∷ 20 ∷ 17 ∷ 18 ∷ 15 ∷ 16 ∷ 13 ∷ 14 ∷ 11 ∷ 12 ∷ 9 ∷ 10 ∷ 7 ∷ 8 ∷ 5 ∷ 6 ∷ 3 ∷ 4 ∷ []) $ frees-all ! $
         keep ! (0 ∷ []) $ nothing ! $ nothing ! $ fjoin ! $ nothing ! $ fjoin ! $ nothing ! $ fjoin ! $ move ! (1 ∷ 0 ∷ []) $ by ! (exits c (chose ys k e m t d r c em et ed er ec) isc)))))))))))))))
 
 meets : {M : Type 1} (𝓤 : URA M) (H : Heap 𝓤) (A : Atoms 𝓤) → Given 𝓤 H A → (mem : Memory → SProp 𝓤) (run : Routine → Fun 𝓤) (𝓣 : Tables 𝓤 H) → Triple 𝓤 (𝓣 .C #g) (G 𝓤 H A mem run) → Triple 𝓤 (𝓣 .C #s) (S 𝓤 H A mem run) → Triple 𝓤 (𝓣 .C #h) (F 𝓤 H A mem run) → Triple 𝓤 (𝓣 .C #p) (P 𝓤 H A mem run) → Triple 𝓤 (𝓣 .C #u) (Ch 𝓤 H A mem run) →

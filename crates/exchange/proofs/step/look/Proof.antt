@@ -19,7 +19,7 @@ use ghost.Atoms.{Atoms, sem}
 use contract.Monad.{Fun, factI}
 use contract.Running.{givenOf, tables, tablesOf}
 use types.Kit.{Given, Item, Sq, runs, anyQ, atRet, ‵, raw, _⊛_, ⋆, _$_, _∵_, !, qed, by, move, keep, use1, use2, split, join, fsplit, fjoin, done}
-use types.Run.{look, init, forget, stop, fld, from, load, of-opd, and-then, no-more, assigns, land, first, switches, returns, enter, alloc1, alloc0, params1, pass1, pass0, free1, free0}
+use types.Run.{look, init, stop, fld, from, load, of-opd, and-then, no-more, assigns, land, first, switches, returns, enter, alloc1, alloc0, params1, pass1, pass0}
 use types.Part.{whole, look-in}
 use types.Match.{vrt, look-tag, in-variant}
 use sound.WpLaws.{FmC, fmOf, WpFn-mono}
@@ -55,6 +55,7 @@ use Rattle.choosing.specs.declared.choice.Choice.the-variants.{At, Refused}
 use Rattle.choosing.specs.declared.choice.Verdict.{Verdict}
 use Rattle.settling.specs.declared.plan.Looked.{Looked}
 use Rattle.table.proofs.Arms.{assigns-on}
+use Rattle.table.proofs.Ends.{full, forgets, frees-all}
 use Rattle.meter.proofs.Plainly.{pre-plain, calls-told, calls-plain, leaves}
 use Rattle.settling.proofs.plan.Looked as U
 use Rattle.settling.proofs.plan.Looked.Laws as U′
@@ -202,8 +203,8 @@ module _ {M : Type 1} (𝓤 : URA M) (H : Heap 𝓤) (A : Atoms 𝓤) (W : Given
                 land ! (from ! (stop !)) (init ! 7 refl (LE.lawful U.the-type U′.the-laws 𝓤 H A W tt .typed u _ isu .0)) $
                 assigns-on ! body.t-3 Post (of-opd ! (load ! (from ! (stop !)) (look ! 7 refl))) (from ! (stop !)) (init ! 1 refl (LE.lawful U.the-type U′.the-laws 𝓤 H A W tt .typed u _ isu .0)) $
                 assigns ! (of-opd ! (load ! (from ! (stop !)) (look ! 1 refl))) (from ! (stop !)) (init ! 21 refl (LE.lawful U.the-type U′.the-laws 𝓤 H A W tt .typed u _ isu .0)) $
-                returns ! (look ! 21 refl) $ forget ! 1 refl $ forget ! 7 refl $ forget ! 9 refl $ forget ! 11 refl $ forget ! 13 refl $ forget ! 15 refl $ forget ! 17 refl $ forget ! 19 refl $ forget ! 21 refl $
-                move ! (21 ∷ 22 ∷ []) $ free1 ! $ move ! (19 ∷ 20 ∷ []) $ free1 ! $ move ! (17 ∷ 18 ∷ []) $ free1 ! $ move ! (15 ∷ 16 ∷ []) $ free1 ! $ move ! (13 ∷ 14 ∷ []) $ free1 ! $ move ! (11 ∷ 12 ∷ []) $ free1 ! $ move ! (9 ∷ 10 ∷ []) $ free1 ! $ move ! (7 ∷ 8 ∷ []) $ free1 ! $ move ! (5 ∷ 6 ∷ []) $ free1 ! $ move ! (3 ∷ 4 ∷ []) $ free1 ! $ move ! (1 ∷ 2 ∷ []) $ free1 ! $ free0 ! $
+                returns ! (look ! 21 refl) $ forgets ! (1 ∷ 7 ∷ 9 ∷ 11 ∷ 13 ∷ 15 ∷ 17 ∷ 19 ∷ 21 ∷ []) (full, (full, (full, (full, (full, (full, (full, (full, (full, tt))))))))) $
+                move ! (21 ∷ 22 ∷ 19 ∷ 20 ∷ 17 ∷ 18 ∷ 15 ∷ 16 ∷ 13 ∷ 14 ∷ 11 ∷ 12 ∷ 9 ∷ 10 ∷ 7 ∷ 8 ∷ 5 ∷ 6 ∷ 3 ∷ 4 ∷ 1 ∷ 2 ∷ []) $ frees-all ! $
                 keep ! (0 ∷ []) $ nothing ! $ nothing ! $ fjoin ! $ nothing ! $ fjoin ! $ nothing ! $ fjoin ! $ move ! (1 ∷ 0 ∷ []) $
                 by ! (exits u (shown ys k e (At i) u er (eu ∙ ap (Looked.At i) ec)) isu)))),
             ((λ z. not-one 0 refl z), (λ z. absurd (z .0 .1 refl))),
@@ -221,8 +222,8 @@ module _ {M : Type 1} (𝓤 : URA M) (H : Heap 𝓤) (A : Atoms 𝓤) (W : Given
                   land ! (from ! (stop !)) (init ! 4 refl (LE.lawful U.the-type U′.the-laws 𝓤 H A W tt .typed u _ isu .0)) $
                   assigns-on ! body.t-3 Post (of-opd ! (load ! (from ! (stop !)) (look ! 4 refl))) (from ! (stop !)) (init ! 2 refl (LE.lawful U.the-type U′.the-laws 𝓤 H A W tt .typed u _ isu .0)) $
                   assigns ! (of-opd ! (load ! (from ! (stop !)) (look ! 2 refl))) (from ! (stop !)) (init ! 22 refl (LE.lawful U.the-type U′.the-laws 𝓤 H A W tt .typed u _ isu .0)) $
-                  returns ! (look ! 22 refl) $ forget ! 2 refl $ forget ! 4 refl $ forget ! 6 refl $ forget ! 14 refl $ forget ! 16 refl $ forget ! 18 refl $ forget ! 20 refl $ forget ! 22 refl $
-                  move ! (22 ∷ 23 ∷ []) $ free1 ! $ move ! (20 ∷ 21 ∷ []) $ free1 ! $ move ! (18 ∷ 19 ∷ []) $ free1 ! $ move ! (16 ∷ 17 ∷ []) $ free1 ! $ move ! (14 ∷ 15 ∷ []) $ free1 ! $ move ! (12 ∷ 13 ∷ []) $ free1 ! $ move ! (10 ∷ 11 ∷ []) $ free1 ! $ move ! (8 ∷ 9 ∷ []) $ free1 ! $ move ! (6 ∷ 7 ∷ []) $ free1 ! $ move ! (4 ∷ 5 ∷ []) $ free1 ! $ move ! (2 ∷ 3 ∷ []) $ free1 ! $ free0 ! $
+                  returns ! (look ! 22 refl) $ forgets ! (2 ∷ 4 ∷ 6 ∷ 14 ∷ 16 ∷ 18 ∷ 20 ∷ 22 ∷ []) (full, (full, (full, (full, (full, (full, (full, (full, tt)))))))) $
+                  move ! (22 ∷ 23 ∷ 20 ∷ 21 ∷ 18 ∷ 19 ∷ 16 ∷ 17 ∷ 14 ∷ 15 ∷ 12 ∷ 13 ∷ 10 ∷ 11 ∷ 8 ∷ 9 ∷ 6 ∷ 7 ∷ 4 ∷ 5 ∷ 2 ∷ 3 ∷ []) $ frees-all ! $
                   keep ! (0 ∷ []) $ nothing ! $ nothing ! $ fjoin ! $ nothing ! $ fjoin ! $ nothing ! $ fjoin ! $ move ! (1 ∷ 0 ∷ []) $
                   by ! (exits u (shown ys k e (Refused v) u er eu) isu))),
               (λ z. absurd (z .1 refl)),

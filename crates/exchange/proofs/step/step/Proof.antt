@@ -17,7 +17,7 @@ use ghost.Atoms.{Atoms, sem}
 use contract.Monad.{Fun, factI}
 use contract.Running.{givenOf, tables, tablesOf}
 use types.Kit.{Given, Item, Sq, runs, atRet, ‵, raw, some, later, _⊛_, ⋆, _$_, _∵_, !, qed, by, move, keep, use1, use2, use3, split, join, pick, fsplit, fjoin, feqL, await, done}
-use types.Run.{look, init, forget, stop, hop, fld, from, load, of-opd, addr, and-then, no-more, assigns, land, returns, enter, alloc1, alloc0, params1, pass1, pass0, free1, free0}
+use types.Run.{look, init, stop, hop, fld, from, load, of-opd, addr, and-then, no-more, assigns, land, returns, enter, alloc1, alloc0, params1, pass1, pass0}
 use types.Part.{agg, whole, sub, look-in}
 use types.Tokens.{lft-new, lft-end}
 use sound.WpLaws.{FmC, fmOf, WpFn-mono}
@@ -54,6 +54,7 @@ use Rattle.settling.specs.declared.settle.Outcome.{Outcome}
 use Rattle.exchange.proofs.Again.{LentAgain, lends-again, comes-back}
 use Rattle.exchange.proofs.Looks.{LentShared, shares-again, comes-back as looked-back}
 use Rattle.exchange.proofs.Planned.{plan-told, plan-put}
+use Rattle.table.proofs.Ends.{full, forgets, frees-all}
 use Rattle.meter.proofs.Plainly.{pre-plain, calls-lasts, calls-told, calls-plain, leaves}
 use Rattle.settling.proofs.settle.Outcome as U
 use Rattle.settling.proofs.settle.Outcome.Laws as U′
@@ -244,8 +245,8 @@ module _ {M : Type 1} (𝓤 : URA M) (H : Heap 𝓤) (A : Atoms 𝓤) (W : Given
           calls-plain ! fm m.ended (m.clauses 𝓤 H A at-mem run) known-m (to-m w) tt (goes-m w isw) (λ u. u ≡ w .outcome) (λ u ws. id⊢ 𝓤 _) uval (LL.tells U.the-type U′.the-laws) (and-then ! (load ! (from ! (stop !)) (look ! 20 refl)) (no-more !)) (λ u eu isu.
           land ! (from ! (stop !)) (init ! 15 refl (LL.lawful U.the-type U′.the-laws 𝓤 H A W .typed u _ isu .0)) $
           assigns ! (of-opd ! (load ! (from ! (stop !)) (look ! 15 refl))) (from ! (stop !)) (init ! 31 refl (LL.lawful U.the-type U′.the-laws 𝓤 H A W .typed u _ isu .0)) $
-          returns ! (look ! 31 refl) $ forget ! 5 refl $ forget ! 7 refl $ forget ! 9 refl $ forget ! 11 refl $ forget ! 13 refl $ forget ! 15 refl $ forget ! 17 refl $ forget ! 19 refl $ forget ! 21 refl $ forget ! 23 refl $ forget ! 25 refl $ forget ! 27 refl $ forget ! 29 refl $ forget ! 31 refl $
-          move ! (31 ∷ 32 ∷ []) $ free1 ! $ move ! (29 ∷ 30 ∷ []) $ free1 ! $ move ! (27 ∷ 28 ∷ []) $ free1 ! $ move ! (25 ∷ 26 ∷ []) $ free1 ! $ move ! (23 ∷ 24 ∷ []) $ free1 ! $ move ! (21 ∷ 22 ∷ []) $ free1 ! $ move ! (19 ∷ 20 ∷ []) $ free1 ! $ move ! (17 ∷ 18 ∷ []) $ free1 ! $ move ! (15 ∷ 16 ∷ []) $ free1 ! $ move ! (13 ∷ 14 ∷ []) $ free1 ! $ move ! (11 ∷ 12 ∷ []) $ free1 ! $ move ! (9 ∷ 10 ∷ []) $ free1 ! $ move ! (7 ∷ 8 ∷ []) $ free1 ! $ move ! (5 ∷ 6 ∷ []) $ free1 ! $ free0 ! $
+          returns ! (look ! 31 refl) $ forgets ! (5 ∷ 7 ∷ 9 ∷ 11 ∷ 13 ∷ 15 ∷ 17 ∷ 19 ∷ 21 ∷ 23 ∷ 25 ∷ 27 ∷ 29 ∷ 31 ∷ []) (full, (full, (full, (full, (full, (full, (full, (full, (full, (full, (full, (full, (full, (full, tt)))))))))))))) $
+          move ! (31 ∷ 32 ∷ 29 ∷ 30 ∷ 27 ∷ 28 ∷ 25 ∷ 26 ∷ 23 ∷ 24 ∷ 21 ∷ 22 ∷ 19 ∷ 20 ∷ 17 ∷ 18 ∷ 15 ∷ 16 ∷ 13 ∷ 14 ∷ 11 ∷ 12 ∷ 9 ∷ 10 ∷ 7 ∷ 8 ∷ 5 ∷ 6 ∷ []) $ frees-all ! $
           keep ! (0 ∷ 1 ∷ 4 ∷ []) $ nothing ! $ nothing ! $ fjoin ! $ nothing ! $ fjoin ! $ nothing ! $ fjoin ! $ move ! (1 ∷ 0 ∷ []) $ fjoin ! $ move ! (1 ∷ 2 ∷ []) $ join ! $
           by ! (exits u (ws .0) isu same (eu ∙ ap (λ (v : Plan). v .outcome) ew ∙ ap (λ (v : Looked). planOf v e es .outcome) er ∙ plan-told ys k e es, ez ∙ ap (committed ys) (et ∙ ap (λ (v : Plan). v .put) ew ∙ ap (λ (v : Looked). planOf v e es .put) er) ∙ plan-put ys k e es))))))))))))
 
