@@ -1,14 +1,14 @@
 -- What is written reads back.
 use Prim.Native.Nat.{ℕ, zero, suc, _+_, _-_, _*_, _/_, _%_, _<_, _≤_}
 use mathlib.Core.List.{List, [], _∷_, _++_, append-assoc}
-use mathlib.Core.Bool.{Bool, true, false, cond, not, _&&_, true≢false}
-use mathlib.Core.Logic.{_⊎_, inl, inr, ⊎-elim}
+use mathlib.Core.Bool.{Bool, true, false, not, _&&_, true≢false}
+use mathlib.Core.Logic.{inl, inr, ⊎-elim}
 use mathlib.Core.Path.{_≡_, refl, sym, ap, _∙_}
 use native.Mathlib.Omega.{arith}
-use borrow.Author.Tests.{ltb-true, le-ltb, le-leb, eqb-true, ne-eqb, not-true, lt-ltb}
-use lib.ListN.{length, getD, take, drop, replicate, length-append, length-replicate, getD-replicate, List·getD-append}
+use borrow.Author.Tests.{ltb-true, le-leb, eqb-true, ne-eqb, not-true}
+use lib.ListN.{length, getD, drop, replicate, length-append, getD-replicate, List·getD-append}
 use lib.Seq.{getD-append-add, take-append-seam, drop-append-add}
-use lib.Dec.{ltb, leb, eqb}
+use lib.Dec.{ltb, eqb}
 use Rattle.call.specs.declared.Event.{Event}
 use Rattle.asking.specs.declared.What.{What}
 use Rattle.rules.specs.declared.side.Side.{Side}
@@ -20,10 +20,10 @@ use Rattle.trace.specs.declared.reading.Entry.{Entry}
 use Rattle.trace.specs.declared.reading.Record.{Record}
 use Rattle.body.specs.Kind.{kindOf, sizeOf}
 use Rattle.body.specs.Field.{flagOf, sideOf, requestOf, givenOf, whatOf}
-use Rattle.trace.specs.Reading.{rangedOf, referenceOf, rightsOf, requestsOf, answersOf, eventOf, placeOf, countOf, entryOf, namedOf, recordOf, elementOf}
+use Rattle.trace.specs.Reading.{referenceOf, rightsOf, requestsOf, answersOf, eventOf, placeOf, countOf, entryOf, recordOf, elementOf}
 use Rattle.recorder.specs.Writing.{flagOctet, sideOctet, requestOctet, givenOctet, whatOctet, fieldOctets, headOctets, recordOctets, elementFitsOf, recordFitsOf}
-use Rattle.trace.specs.Promises.{Zeros, Held, Field, Three, InRange}
-use Rattle.recorder.specs.Promises.{Back, Again, RoundTrip}
+use Rattle.trace.specs.Promises.{Zeros, Held, Field, InRange}
+use Rattle.recorder.specs.Promises.{Again}
 use Rattle.trace.proofs.Tests.{both}
 use Rattle.recorder.proofs.Sizing.{Whole, element-in, element-small, field-is}
 use Rattle.trace.proofs.Ranged.{ranged}

@@ -8,11 +8,9 @@ use lib.Dec.{ltb, eqb}
 use Rattle.call.specs.declared.Event.{Event}
 use Rattle.asking.specs.declared.What.{What}
 use Rattle.rules.specs.declared.side.Side.{Side}
-use Rattle.service.specs.declared.rights.Rights.{Rights}
 use Rattle.standing.specs.declared.Answers.{Answers}
 use Rattle.standing.specs.declared.Given.{Given}
 use Rattle.standing.specs.declared.Request.{Request}
-use Rattle.standing.specs.declared.Requests.{Requests}
 use Rattle.recorder.specs.declared.Head.{Head}
 
 abbrev pub flagOctet : Bool → ℕ

@@ -1,6 +1,6 @@
 -- A piece that is being worked off: what is left of it makes up what the whole of it makes.
 use Prim.Native.Nat.{ℕ, zero, suc, _+_, _-_, _<_, _≤_}
-use mathlib.Core.List.{List, [], _++_, append-nil}
+use mathlib.Core.List.{List, [], append-nil}
 use mathlib.Core.Bool.{Bool, true, false, cond, true≢false}
 use mathlib.Core.Path.{_≡_, refl, sym, ap, _∙_}
 use native.Mathlib.Omega.{arith}
@@ -31,7 +31,7 @@ use Rattle.exchange.specs.Halves.{lookOf, committed}
 use Rattle.exchange.proofs.Planned.{plan-told, plan-put}
 use Rattle.exchange.proofs.Promises.{one-place}
 use Rattle.fronts.specs.Fronts.{heardOf, frontOf, columnsOf}
-use Rattle.rerun.specs.Run.{turnedAt, lineAt, Ran, rests, ends, goes, turnOf, runIn, runOf, soFar, WorkedOff}
+use Rattle.rerun.specs.Run.{turnedAt, lineAt, Ran, rests, ends, goes, runIn, runOf, soFar, WorkedOff}
 use Rattle.fronts.specs.Fronts.{referenceIn, eventIn, plannedAt}
 use Rattle.rerun.specs.Move.{sizeIn, textIn, beginning, halts, moveIn, Moved}
 

@@ -6,7 +6,6 @@ use mathlib.Core.Path.{_≡_}
 use lib.ListN.{length}
 use lib.Dec.{leb}
 use Rattle.room.specs.Room.{placed}
-use Rattle.room.specs.declared.Bar.{Bar}
 use Rattle.room.specs.declared.Wrote.{Wrote}
 use Rattle.settling.specs.declared.plan.Looked.{Looked}
 use Rattle.settling.specs.declared.plan.Put.{Put}

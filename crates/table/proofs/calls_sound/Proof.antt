@@ -2,12 +2,11 @@
 -- A turn calls `call_at`, then `find_from` for a later record of the same reference, and `at_fault` on the two, and returns, or goes on at the next index. The slice itself is never looked into here.
 -- Assumes nothing.
 use mathlib.Core.Path.{_≡_, refl, sym, _∙_, ap, subst}
-use Prim.Native.Nat.{ℕ, zero, suc, _+_, _-_, _<_, _≤_, _^_}
-use native.Mathlib.Nat.{add-zero, add-suc, not-suc-le-zero, le-of-suc-le-suc}
+use Prim.Native.Nat.{ℕ, _+_, _-_, _<_, _^_}
 use native.Mathlib.Omega.{arith}
 use mathlib.Core.Bool.{Bool, true, false, not, _&&_}
 use mathlib.Core.List.{[], _∷_, List}
-use mathlib.Core.WellFounded.{WellFounded, InvImage·wf}
+use mathlib.Core.WellFounded.{InvImage·wf}
 use lib.Dec.{T as Holds, ltb, lit<}
 use lib.ListN.{length, getD, drop as dropL, drop-of-length-le}
 use lib.WfN.{Nat·lt-wfRel}
@@ -23,10 +22,10 @@ use prog.Wp.{Heap, Out, Env, Calls, Loops, Wp, WpFn, Tables, afterSeq, afterBloc
 use ghost.Atoms.{Atoms, sem}
 use contract.Monad.{Fun, factI}
 use contract.Running.{givenOf, tables, tablesOf}
-use types.Kit.{Given, Item, Sq, runs, anyQ, atRet, ‵, raw, _⊛_, ⋆, _$_, _∵_, !, qed, by, move, keep, drop, use1, use2, split, join, rewrite, fsplit, fjoin, done}
+use types.Kit.{Given, Item, Sq, runs, anyQ, atRet, ‵, raw, _⊛_, ⋆, _$_, _∵_, !, qed, by, move, keep, use1, use2, split, join, rewrite, fsplit, fjoin, done}
 use types.Run.{look, store, init, stop, fld, from, load, lit, true-lit, false-lit, of-opd, bin, and-then, no-more, assigns, assigns-last, land, first, blocks, branches, stays, leaves-loop, exec, returns, returns-within, Below, again, loops, enter, alloc1, alloc0, params1, pass1, pass0}
 use types.Part.{whole, sub, look-in}
-use sound.WpLaws.{FmC, fmOf, WpFn-mono}
+use sound.WpLaws.{fmOf, WpFn-mono}
 use borrow.Author.Tests.{ltb-true, ltb-false}
 use denote.RattleType.{owns}
 use denote.Laws.{Is}
@@ -44,7 +43,7 @@ use denote.Triple.Entry.{onEntry}
 use denote.Triple.Spec.{Meets, tripleOf}
 use denote.Triple.Statement.{Contract, Triple}
 use denote.Triple.Table.{entered, cited}
-use denote.Triple.Walked.{says, Stays, stay-dropped, walkOf, goes-dropped, walked, walk-meets}
+use denote.Triple.Walked.{Stays, stay-dropped, walkOf, goes-dropped, walked, walk-meets}
 use denote.Exit.{yes}
 use Rattle.call.specs.declared.Call.{Call}
 use Rattle.call.specs.Sound.{freshCall, soundOf}

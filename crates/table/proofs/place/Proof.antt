@@ -2,12 +2,11 @@
 -- A turn copies what the slice reference owns, calls `call_at` and `is_free`, and returns, or goes on at the next index. The slice itself is never looked into here.
 -- Assumes nothing.
 use mathlib.Core.Path.{_≡_, refl, sym, _∙_, ap, subst}
-use Prim.Native.Nat.{ℕ, zero, suc, _+_, _-_, _<_, _≤_, _^_}
-use native.Mathlib.Nat.{add-zero, add-suc, not-suc-le-zero, le-of-suc-le-suc}
+use Prim.Native.Nat.{ℕ, _+_, _-_, _<_, _^_}
 use native.Mathlib.Omega.{arith}
 use mathlib.Core.Bool.{Bool, true, false, cond, not}
 use mathlib.Core.List.{[], _∷_, List}
-use mathlib.Core.WellFounded.{WellFounded, InvImage·wf}
+use mathlib.Core.WellFounded.{InvImage·wf}
 use lib.Dec.{T as Holds, ltb, lit<}
 use lib.ListN.{length, getD, drop as dropL, drop-of-length-le}
 use lib.WfN.{Nat·lt-wfRel}
@@ -23,10 +22,10 @@ use prog.Wp.{Heap, Out, Env, Calls, Loops, Wp, WpFn, Tables, afterSeq, afterBloc
 use ghost.Atoms.{Atoms, sem}
 use contract.Monad.{Fun, factI}
 use contract.Running.{givenOf, tables, tablesOf}
-use types.Kit.{Given, Item, Sq, runs, anyQ, atRet, ‵, raw, _⊛_, ⋆, _$_, _∵_, !, qed, by, move, keep, drop, use1, use2, split, join, rewrite, fsplit, fjoin, done}
+use types.Kit.{Given, Item, Sq, runs, anyQ, atRet, ‵, raw, _⊛_, ⋆, _$_, _∵_, !, qed, by, move, keep, use1, use2, split, join, rewrite, fsplit, fjoin, done}
 use types.Run.{look, store, init, stop, fld, from, load, lit, of-opd, bin, and-then, no-more, assigns, assigns-last, land, first, blocks, branches, stays, leaves-loop, exec, returns, returns-within, Below, again, loops, enter, alloc1, alloc0, params1, pass1, pass0}
 use types.Part.{agg, whole, sub, look-in}
-use sound.WpLaws.{FmC, fmOf, WpFn-mono}
+use sound.WpLaws.{fmOf, WpFn-mono}
 use borrow.Author.Tests.{ltb-true, ltb-false}
 use denote.RattleType.{owns}
 use denote.Laws.{Is}
