@@ -1,33 +1,57 @@
 -- Pieces that were put one after another, as the columns spell them.
-use Prim.Native.Nat.{ℕ, _+_, _≤_}
+use Prim.Native.Nat.{ℕ, _+_, _≤_, _<_}
 use mathlib.Core.List.{List, [], _∷_, _++_, append-assoc}
-use mathlib.Core.Path.{_≡_}
+use mathlib.Core.Bool.{true}
+use mathlib.Core.Path.{_≡_, refl}
+use native.Mathlib.Numerals.{add-one}
 use native.Mathlib.Omega.{arith}
-use lib.ListN.{length}
+use lib.ListN.{length, set, length-set}
+use lib.Seq.{set-split}
+use Rattle.room.specs.declared.Wrote.{Wrote}
+use Rattle.room.specs.Putting.{endOf}
+use Rattle.room.specs.Room.{placed, Written}
 use Rattle.text.specs.Decimal.{decimalOf}
 use Rattle.text.specs.Pieces.{Piece}
-use Rattle.text.proofs.Pieced.{spelled, two}
+use Rattle.text.proofs.Pieced.{settled, spelled, two, piece-length}
 use Rattle.line.specs.Columns.{column}
 use Rattle.line.proofs.Words.{taken-text}
 
-parted : (x : ℕ) (a b : List ℕ) → (((32 ∷ []) ++ a) ++ (x ∷ [])) ++ b ≡ column (a ++ (x ∷ b))
-parted x a b = simp append-assoc
+-- an octet
+pub octet : {at x : ℕ} {l : List ℕ} → at < length l → Piece 1 at (x ∷ []) l (set l at x) (at + 1)
+unfolding placed
+octet {at} {x} {l} h = record { end = refl; octets = rw (append-assoc, add-one) (set-split l at x h); small = omega arith }
 
--- two texts with an octet between them
-pub two-texts : {m at i j k r x : ℕ} {a b l l₁ l₂ l₃ l' : List ℕ} → at + (m + m + 2) ≤ length l → Piece 1 at (32 ∷ []) l l₁ i → Piece m i a l₁ l₂ j → Piece 1 j (x ∷ []) l₂ l₃ k → Piece m k b l₃ l' r → Piece (m + m + 2) at (column (a ++ (x ∷ b))) l l' r
-two-texts {m} {at} {i} {j} {k} {r} {x} {a} {b} h p q s t =
-    spelled (parted x a b) (omega arith) (two (omega arith) (two (omega arith) (two (omega arith) p q) s) t)
+pub two-octets : {at x y : ℕ} {l : List ℕ} → at + 2 ≤ length l → Piece 2 at (x ∷ y ∷ []) l (set (set l at x) (at + 1) y) (at + 2)
+two-octets {at} {x} {y} {l} h =
+    let p = two {m = 1} {k = 1} {at = at} {l = l} h (octet {x = x} (omega arith)) (octet {x = y} (simp length-set (omega arith))) in
+    record { end = refl; octets = p .octets; small = p .small }
 
--- three texts, joined by `,`
-pub three-texts : {at i j r : ℕ} {a b c l l₁ l₂ l' : List ℕ} → at + 86 ≤ length l → Piece 28 at a l l₁ i → Piece 29 i (44 ∷ b) l₁ l₂ j → Piece 29 j (44 ∷ c) l₂ l' r → Piece 86 at (a ++ (44 ∷ (b ++ (44 ∷ c)))) l l' r
-three-texts {at} {i} {j} {r} {a} {b} {c} h p q s =
-    spelled (append-assoc a (44 ∷ b) (44 ∷ c)) (omega arith) (two (omega arith) (two (omega arith) p q) s)
+-- an octet, and what was written after it
+pub marked : {m at r x : ℕ} {p l l' : List ℕ} {w : Wrote} → at + (1 + m) ≤ length l → length p ≤ m → Written true (at + 1) p (set l at x) l' w → r ≡ endOf w → Piece (1 + m) at (x ∷ p) l l' r
+marked {l = l} h k v e = two h (octet (omega arith)) (settled (simp length-set (omega arith)) k v e)
 
-numbered : (h c s f e : List ℕ) → (((((32 ∷ 48 ∷ []) ++ h) ++ c) ++ s) ++ f) ++ e ≡ column (decimalOf 0) ++ h ++ c ++ s ++ f ++ e
+-- the columns of a message but for its element
+pub four-columns : {at i₁ i₂ i₃ r : ℕ} {h c s f l l₁ l₂ l₃ l' : List ℕ} → at + 137 ≤ length l → Piece 26 at h l l₁ i₁ → Piece 21 i₁ c l₁ l₂ i₂ → Piece 3 i₂ s l₂ l₃ i₃ → Piece 87 i₃ f l₃ l' r → Piece 137 at (h ++ c ++ s ++ f) l l' r
+four-columns k p₁ p₂ p₃ p₄ = two k (two (omega arith) (two (omega arith) p₁ p₂) p₃) p₄
+
+numbered : (h c s f e : List ℕ) → ((32 ∷ 48 ∷ []) ++ (h ++ c ++ s ++ f)) ++ e ≡ column (decimalOf 0) ++ h ++ c ++ s ++ f ++ e
 numbered h c s f e = rw taken-text
 
 -- the columns of a message that was taken
-pub six-columns : {at i₁ i₂ i₃ i₄ i₅ r : ℕ} {h c s f e l l₁ l₂ l₃ l₄ l₅ l' : List ℕ} → at + 181 ≤ length l → Piece 2 at (32 ∷ 48 ∷ []) l l₁ i₁ → Piece 26 i₁ h l₁ l₂ i₂ → Piece 21 i₂ c l₂ l₃ i₃ → Piece 3 i₃ s l₃ l₄ i₄ → Piece 87 i₄ f l₄ l₅ i₅ → Piece 42 i₅ e l₅ l' r → Piece 181 at (column (decimalOf 0) ++ h ++ c ++ s ++ f ++ e) l l' r
-six-columns {at} {i₁} {i₂} {i₃} {i₄} {i₅} {r} {h} {c} {s} {f} {e} k p₁ p₂ p₃ p₄ p₅ p₆ =
-    spelled (numbered h c s f e) (omega arith)
-    (two (omega arith) (two (omega arith) (two (omega arith) (two (omega arith) (two (omega arith) p₁ p₂) p₃) p₄) p₅) p₆)
+pub taken-columns : {at i₁ i₂ r : ℕ} {l l₁ l₂ l' : List ℕ} (h c s f e : List ℕ) → at + 181 ≤ length l → Piece 2 at (32 ∷ 48 ∷ []) l l₁ i₁ → Piece 137 i₁ (h ++ c ++ s ++ f) l₁ l₂ i₂ → Piece 42 i₂ e l₂ l' r → Piece 181 at (column (decimalOf 0) ++ h ++ c ++ s ++ f ++ e) l l' r
+taken-columns h c s f e k p q t =
+    spelled (numbered h c s f e) (omega arith) (two (omega arith) (two (omega arith) p q) t)
+
+-- a line that is laid out from the start of a buffer: the room after its first number
+pub room-left : {a : ℕ} {n l l₁ : List ℕ} {w : Wrote} → length l ≡ 202 → length n ≤ 20 → Written true 0 n l l₁ w → a ≡ endOf w → a + 181 ≤ length l₁
+room-left {l = l} h k v e =
+    let q = settled {most = 20} {at = 0} (omega arith) k v e in
+    omega (arith, q .end, q .small, piece-length {l = l} (omega arith) q)
+
+-- and all of it
+pub laid-out : {a b : ℕ} {n c l l₁ l₂ : List ℕ} {w : Wrote} → length l ≡ 202 → length n ≤ 20 → Written true 0 n l l₁ w → a ≡ endOf w → Piece 181 a c l₁ l₂ b → Piece 202 0 (n ++ c ++ (10 ∷ [])) l (set l₂ b 10) (b + 1)
+laid-out {l = l} {l₁ = l₁} h k v e p =
+    let q = settled {most = 20} {at = 0} (omega arith) k v e in
+    let f = piece-length {l = l} (omega arith) q in
+    let g = piece-length {l = l₁} (omega (arith, q .end, q .small)) p in
+    two (omega arith) (two (omega arith) q p) (octet (omega (arith, q .end, q .small, p .end, p .small)))

@@ -1,7 +1,7 @@
 // What is printed of one message: a line of columns.
 ghost use mathlib.Core.Path.{_≡_};
 ghost use mathlib.Core.Bool.{true};
-ghost use mathlib.Core.List.{_∷_};
+ghost use mathlib.Core.List.{[], _∷_, _++_};
 ghost use Prim.Native.Nat.{_+_, _≤_};
 ghost use lib.ListN.{length};
 ghost use Rattle.room.specs.Room.{Written};
@@ -10,8 +10,8 @@ ghost use Rattle.elements.specs.Numbers.{faultNumber};
 ghost use Rattle.text.specs.Decimal.{decimalOf};
 ghost use Rattle.text.specs.Hex.{hexOf};
 ghost use Rattle.text.specs.Pieces.{Piece};
-ghost use Rattle.line.specs.Columns.{wishLetter, flagDigit, headColumns, causeColumn, singleColumn, componentText, facilityColumn, elementColumn, takenColumns, columnsOf, column};
-ghost use Rattle.line.specs.Line.{lineOf, lineWith};
+ghost use Rattle.line.specs.Columns.{column, flagDigit, headColumns, causeColumn, singleColumn, wishLetter, componentText, facilityColumn, elementColumn, takenColumns, columnsOf};
+ghost use Rattle.line.specs.Line.{lineOf};
 use cause::Cause;
 use component::facility::Component;
 use component::facility::Refusal;
@@ -22,6 +22,7 @@ use elements::Read;
 use elements::Reading;
 use fields::Facilities;
 use fields::Header;
+use fields::Message;
 use fields::Place;
 use fields::Single;
 use fields::kind::kind_octet;
@@ -32,24 +33,6 @@ use room::write_octets;
 use text::decimal::write_decimal;
 use text::hex::write_hex;
 
-fn wide8(x: u8) -> u64
-    ensures { λ r. ⌜ r ≡ x ⌝ }
-{
-    x as u64
-}
-
-fn wide16(x: u16) -> u64
-    ensures { λ r. ⌜ r ≡ x ⌝ }
-{
-    x as u64
-}
-
-fn wide_place(x: usize) -> u64
-    ensures { λ r. ⌜ r ≡ x ⌝ }
-{
-    x as u64
-}
-
 fn put(buf: &mut [u8], at: usize, piece: &[u8]) -> usize
     requires { ⌜ at + length (now piece) ≤ length (now buf) ⌝ }
     ensures { λ r. ⌜ Piece (length (now (piece .entry))) at (now (piece .entry)) (now (buf .entry)) (now (buf .exit)) r ⌝ }
@@ -57,18 +40,31 @@ fn put(buf: &mut [u8], at: usize, piece: &[u8]) -> usize
     end_of(write_octets(buf, at, piece))
 }
 
-fn put_decimal(buf: &mut [u8], at: usize, n: u64) -> usize
-    requires { ⌜ at + 20 ≤ length (now buf) ⌝ }
-    ensures { λ r. ⌜ Piece 20 at (decimalOf n) (now (buf .entry)) (now (buf .exit)) r ⌝ }
+fn put_two(buf: &mut [u8], at: usize, x: u8, y: u8) -> usize
+    requires { ⌜ at + 2 ≤ length (now buf) ⌝ }
+    ensures { λ r. ⌜ Piece 2 at (x ∷ y ∷ []) (now (buf .entry)) (now (buf .exit)) r ⌝ }
 {
-    end_of(write_decimal(buf, at, n))
+    buf[at] = x;
+    buf[at + 1] = y;
+    at + 2
 }
 
-fn put_hex(buf: &mut [u8], at: usize, x: u8) -> usize
-    requires { ⌜ at + 2 ≤ length (now buf) ⌝ }
-    ensures { λ r. ⌜ Piece 2 at (hexOf x) (now (buf .entry)) (now (buf .exit)) r ⌝ }
+// A number, after the mark that parts it from what stands before it.
+fn put_number(buf: &mut [u8], at: usize, mark: u8, n: u64) -> usize
+    requires { ⌜ at + 21 ≤ length (now buf) ⌝ }
+    ensures { λ r. ⌜ Piece 21 at (mark ∷ decimalOf n) (now (buf .entry)) (now (buf .exit)) r ⌝ }
 {
-    end_of(write_hex(buf, at, x))
+    buf[at] = mark;
+    end_of(write_decimal(buf, at + 1, n))
+}
+
+// A column of two hexadecimal digits.
+fn put_hex(buf: &mut [u8], at: usize, x: u8) -> usize
+    requires { ⌜ at + 3 ≤ length (now buf) ⌝ }
+    ensures { λ r. ⌜ Piece 3 at (column (hexOf x)) (now (buf .entry)) (now (buf .exit)) r ⌝ }
+{
+    buf[at] = b' ';
+    end_of(write_hex(buf, at + 1, x))
 }
 
 fn flag_digit(flag: bool) -> u8
@@ -83,11 +79,9 @@ fn put_head(buf: &mut [u8], at: usize, h: Header) -> usize
     ensures { λ r. ⌜ Piece 26 at (headColumns h) (now (buf .entry)) (now (buf .exit)) r ⌝ }
 {
     let kind = h.kind;
-    let a = put(buf, at, &[b' ']);
-    let b = put_hex(buf, a, kind_octet(kind));
-    let flag = flag_digit(h.flag);
-    let c = put(buf, b, &[b' ', flag, b' ']);
-    put_decimal(buf, c, wide16(h.reference))
+    let a = put_hex(buf, at, kind_octet(kind));
+    let b = put_two(buf, a, b' ', flag_digit(h.flag));
+    put_number(buf, b, b' ', h.reference as u64)
 }
 
 fn put_cause(buf: &mut [u8], at: usize, c: Cause) -> usize
@@ -95,11 +89,8 @@ fn put_cause(buf: &mut [u8], at: usize, c: Cause) -> usize
     ensures { λ r. ⌜ Piece 21 at (column (causeColumn c)) (now (buf .entry)) (now (buf .exit)) r ⌝ }
 {
     match c {
-        Cause::Absent => put(buf, at, &[b' ', b'-']),
-        Cause::Value(v) => {
-            let a = put(buf, at, &[b' ']);
-            put_decimal(buf, a, wide8(v))
-        }
+        Cause::Absent => put_two(buf, at, b' ', b'-'),
+        Cause::Value(v) => put_number(buf, at, b' ', v as u64),
     }
 }
 
@@ -108,10 +99,10 @@ fn put_single(buf: &mut [u8], at: usize, s: Single) -> usize
     ensures { λ r. ⌜ Piece 3 at (column (singleColumn s)) (now (buf .entry)) (now (buf .exit)) r ⌝ }
 {
     match s {
-        Single::Absent => put(buf, at, &[b' ', b'-']),
-        Single::MoreData => put(buf, at, &[b' ', b'A', b'0']),
-        Single::Ready => put(buf, at, &[b' ', b'B', b'0']),
-        Single::NotReady => put(buf, at, &[b' ', b'B', b'F']),
+        Single::Absent => put_two(buf, at, b' ', b'-'),
+        Single::MoreData => put_hex(buf, at, 0xA0),
+        Single::Ready => put_hex(buf, at, 0xB0),
+        Single::NotReady => put_hex(buf, at, 0xBF),
     }
 }
 
@@ -134,69 +125,54 @@ fn wish_letter(w: Wish) -> u8
     }
 }
 
-fn put_component(buf: &mut [u8], at: usize, c: Component) -> usize
-    requires { ⌜ at + 28 ≤ length (now buf) ⌝ }
-    ensures { λ r. ⌜ Piece 28 at (componentText c) (now (buf .entry)) (now (buf .exit)) r ⌝ }
+// An invoke number, and what is said of it.
+fn put_invoke(buf: &mut [u8], at: usize, mark: u8, id: u8, said: &[u8]) -> usize
+    requires { ⌜ at + (21 + length (now said)) ≤ length (now buf) ⌝ }
+    ensures { λ r. ⌜ Piece (21 + length (now (said .entry))) at (mark ∷ (decimalOf id ++ now (said .entry))) (now (buf .entry)) (now (buf .exit)) r ⌝ }
+{
+    let a = put_number(buf, at, mark, id as u64);
+    put(buf, a, said)
+}
+
+fn put_component(buf: &mut [u8], at: usize, mark: u8, c: Component) -> usize
+    requires { ⌜ at + 29 ≤ length (now buf) ⌝ }
+    ensures { λ r. ⌜ Piece 29 at (mark ∷ componentText c) (now (buf .entry)) (now (buf .exit)) r ⌝ }
 {
     match c {
         Component::Invoke(id, s, w) => {
-            let a = put_decimal(buf, at, wide8(id));
-            let service = service_digit(s);
-            let wish = wish_letter(w);
-            put(buf, a, &[b'.', service, b'.', wish])
+            let said = [b'.', service_digit(s), b'.', wish_letter(w)];
+            put_invoke(buf, at, mark, id, &said)
         }
-        Component::Accepted(id) => {
-            let a = put_decimal(buf, at, wide8(id));
-            put(buf, a, &[b'.', b'o', b'k'])
-        }
-        Component::Rejected(id, e) => {
-            let a = put_decimal(buf, at, wide8(id));
-            match e {
-                Refusal::ByUser => put(buf, a, &[b'.', b'u', b's', b'e', b'r']),
-                Refusal::ByNetwork => put(
-                    buf,
-                    a,
-                    &[b'.', b'n', b'e', b't', b'w', b'o', b'r', b'k'],
-                ),
-            }
-        }
+        Component::Accepted(id) => put_invoke(buf, at, mark, id, b".ok"),
+        Component::Rejected(id, e) => match e {
+            Refusal::ByUser => put_invoke(buf, at, mark, id, b".user"),
+            Refusal::ByNetwork => put_invoke(buf, at, mark, id, b".network"),
+        },
     }
 }
 
-// One more component, after a `,`.
-fn put_more(buf: &mut [u8], at: usize, c: Component) -> usize
-    requires { ⌜ at + 29 ≤ length (now buf) ⌝ }
-    ensures { λ r. ⌜ Piece 29 at (44 ∷ componentText c) (now (buf .entry)) (now (buf .exit)) r ⌝ }
+// The first two components of a column.
+fn put_both(buf: &mut [u8], at: usize, a: Component, b: Component) -> usize
+    requires { ⌜ at + 58 ≤ length (now buf) ⌝ }
+    ensures { λ r. ⌜ Piece 58 at (column (componentText a ++ (44 ∷ componentText b))) (now (buf .entry)) (now (buf .exit)) r ⌝ }
 {
-    let i = put(buf, at, &[b',']);
-    put_component(buf, i, c)
-}
-
-fn put_components(buf: &mut [u8], at: usize, f: Facilities) -> usize
-    requires { ⌜ at + 86 ≤ length (now buf) ⌝ }
-    ensures { λ r. ⌜ Piece 86 at (facilityColumn f) (now (buf .entry)) (now (buf .exit)) r ⌝ }
-{
-    match f {
-        Facilities::Zero => put(buf, at, &[b'-']),
-        Facilities::One(a) => put_component(buf, at, a),
-        Facilities::Two(a, b) => {
-            let i = put_component(buf, at, a);
-            put_more(buf, i, b)
-        }
-        Facilities::Three(a, b, c) => {
-            let i = put_component(buf, at, a);
-            let j = put_more(buf, i, b);
-            put_more(buf, j, c)
-        }
-    }
+    let i = put_component(buf, at, b' ', a);
+    put_component(buf, i, b',', b)
 }
 
 fn put_facility(buf: &mut [u8], at: usize, f: Facilities) -> usize
     requires { ⌜ at + 87 ≤ length (now buf) ⌝ }
     ensures { λ r. ⌜ Piece 87 at (column (facilityColumn f)) (now (buf .entry)) (now (buf .exit)) r ⌝ }
 {
-    let i = put(buf, at, &[b' ']);
-    put_components(buf, i, f)
+    match f {
+        Facilities::Zero => put_two(buf, at, b' ', b'-'),
+        Facilities::One(a) => put_component(buf, at, b' ', a),
+        Facilities::Two(a, b) => put_both(buf, at, a, b),
+        Facilities::Three(a, b, c) => {
+            let i = put_both(buf, at, a, b);
+            put_component(buf, i, b',', c)
+        }
+    }
 }
 
 fn put_element(buf: &mut [u8], at: usize, p: Place) -> usize
@@ -204,14 +180,26 @@ fn put_element(buf: &mut [u8], at: usize, p: Place) -> usize
     ensures { λ r. ⌜ Piece 42 at (column (elementColumn p)) (now (buf .entry)) (now (buf .exit)) r ⌝ }
 {
     match p {
-        Place::Absent => put(buf, at, &[b' ', b'-']),
+        Place::Absent => put_two(buf, at, b' ', b'-'),
         Place::At(i, n) => {
-            let a = put(buf, at, &[b' ']);
-            let b = put_decimal(buf, a, wide_place(i));
-            let c = put(buf, b, &[b'+']);
-            put_decimal(buf, c, wide_place(n))
+            let a = put_number(buf, at, b' ', i as u64);
+            put_number(buf, a, b'+', n as u64)
         }
     }
+}
+
+fn put_message(buf: &mut [u8], at: usize, m: Message) -> usize
+    requires { ⌜ at + 137 ≤ length (now buf) ⌝ }
+    ensures { λ r. ⌜ Piece 137 at (headColumns (m .header) ++ column (causeColumn (m .cause)) ++ column (singleColumn (m .single)) ++ column (facilityColumn (m .facility))) (now (buf .entry)) (now (buf .exit)) r ⌝ }
+{
+    let header = m.header;
+    let cause = m.cause;
+    let single = m.single;
+    let facility = m.facility;
+    let a = put_head(buf, at, header);
+    let b = put_cause(buf, a, cause);
+    let c = put_single(buf, b, single);
+    put_facility(buf, c, facility)
 }
 
 // The columns of a message that was taken.
@@ -219,18 +207,11 @@ fn put_taken(buf: &mut [u8], at: usize, r: Reading) -> usize
     requires { ⌜ at + 181 ≤ length (now buf) ⌝ }
     ensures { λ e. ⌜ Piece 181 at (takenColumns r) (now (buf .entry)) (now (buf .exit)) e ⌝ }
 {
-    let m = r.message;
-    let header = m.header;
-    let cause = m.cause;
-    let single = m.single;
-    let facility = m.facility;
+    let message = r.message;
     let user = r.user;
-    let a = put(buf, at, &[b' ', b'0']);
-    let b = put_head(buf, a, header);
-    let c = put_cause(buf, b, cause);
-    let d = put_single(buf, c, single);
-    let e = put_facility(buf, d, facility);
-    put_element(buf, e, user)
+    let a = put_two(buf, at, b' ', b'0');
+    let b = put_message(buf, a, message);
+    put_element(buf, b, user)
 }
 
 fn fault_digit(f: Fault) -> u8
@@ -245,6 +226,14 @@ fn fault_digit(f: Fault) -> u8
     }
 }
 
+fn put_refused(buf: &mut [u8], at: usize, f: Fault) -> usize
+    requires { ⌜ at + 16 ≤ length (now buf) ⌝ }
+    ensures { λ r. ⌜ Piece 16 at (columnsOf (Read.Refused f)) (now (buf .entry)) (now (buf .exit)) r ⌝ }
+{
+    let a = put_two(buf, at, b' ', fault_digit(f));
+    put(buf, a, b" - - - - - - -")
+}
+
 // The columns after the first.
 fn put_columns(buf: &mut [u8], at: usize, r: Read) -> usize
     requires { ⌜ at + 181 ≤ length (now buf) ⌝ }
@@ -252,36 +241,19 @@ fn put_columns(buf: &mut [u8], at: usize, r: Read) -> usize
 {
     match r {
         Read::Taken(t) => put_taken(buf, at, t),
-        Read::Refused(f) => {
-            let number = fault_digit(f);
-            let a = put(buf, at, &[b' ', number]);
-            put(buf, a, b" - - - - - - -")
-        }
+        Read::Refused(f) => put_refused(buf, at, f),
     }
 }
 
-// A whole line, where there is room for the longest.
-fn put_line(buf: &mut [u8], at: usize, offset: u64, r: Read) -> usize
-    requires { ⌜ at + 202 ≤ length (now buf) ⌝ }
-    ensures { λ e. ⌜ Piece 202 at (lineWith offset r) (now (buf .entry)) (now (buf .exit)) e ⌝ }
-{
-    let a = put_decimal(buf, at, offset);
-    let b = put_columns(buf, a, r);
-    put(buf, b, &[b'\n'])
-}
-
-// Writes the line of a message that starts at an offset of its capture; where the line does not fit, nothing. Near the
-// buffer's end it is laid out apart first, since how long it is shows only when it is there.
+// Writes the line of a message that starts at an offset of its capture; where the line does not fit, nothing. It is laid out
+// apart first, since how long it is shows only when it is there.
 pub fn write_line(buf: &mut [u8], at: usize, offset: u64, m: &[u8]) -> Wrote
     ensures { λ r. ⌜ Written true at (lineOf offset (now (m .entry))) (now (buf .entry)) (now (buf .exit)) r ⌝ }
 {
     let read = read_message(m);
-    if at <= buf.len() {
-        if buf.len() - at >= 202 {
-            return Wrote::To(put_line(buf, at, offset, read));
-        }
-    }
     let mut line = [0u8; 202];
-    let n = put_line(&mut line, 0, offset, read);
-    write_octets(buf, at, &line[0..n])
+    let a = end_of(write_decimal(&mut line, 0, offset));
+    let b = put_columns(&mut line, a, read);
+    line[b] = b'\n';
+    write_octets(buf, at, &line[0..b + 1])
 }

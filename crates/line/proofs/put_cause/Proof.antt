@@ -1,5 +1,5 @@
 use native.Mathlib.Omega.{arith}
-use Rattle.text.proofs.Pieced.{spelled, two}
+use Rattle.text.proofs.Pieced.{spelled}
 use borrow.Author.Needs.{needs}
 use Rattle.line.proofs.put_cause.Statement.{statement}
 use Rattle.line.proofs.put_cause.Tie as tie
@@ -7,51 +7,39 @@ use Rattle.line.proofs.put_cause.Tie as tie
 enum-told : tie.Need-enum-told
 enum-told c = search needs
 
-slice-aggregate-put : tie.Need-slice-aggregate-put
-slice-aggregate-put c = search needs
-
-put-requires : tie.Need-put-requires
-put-requires c κs = search needs
+put-two-requires : tie.Need-put-two-requires
+put-two-requires c κs = search needs
 
 enum-known-c : tie.Need-enum-known-c
 enum-known-c c = search needs
 
-slice-aggregate-put-2 : tie.Need-slice-aggregate-put-2
-slice-aggregate-put-2 c = search needs
+cast-put-number : tie.Need-cast-put-number
+cast-put-number c = search needs
 
-put-requires-2 : tie.Need-put-requires-2
-put-requires-2 c κs = search needs
-
-wide8-requires : tie.Need-wide8-requires
-wide8-requires c κs = search needs
-
-put-decimal-requires : tie.Need-put-decimal-requires
-put-decimal-requires c κs = search needs
+put-number-requires : tie.Need-put-number-requires
+put-number-requires c κs = search needs
 
 same-length : tie.Need-same-length
 same-length c = search needs
 
 returns : tie.Need-returns
-returns c = spelled (simp (c .before .before .before .before .before .enum-told .given .1)) (omega arith) (c .before .before .put .ensures)
+returns c = spelled (simp (c .before .before .before .before .enum-told .given .1)) (omega arith) (c .before .before .put-two .ensures)
 
 same-length-2 : tie.Need-same-length-2
 same-length-2 c = search needs
 
 returns-2 : tie.Need-returns-2
-returns-2 c = spelled (simp (c .before .before .before .wide8 .ensures, c .before .before .before .before .before .before .before .before .before .before .before .c .given .1)) (omega arith) (two (omega arith) (c .before .before .before .before .before .before .before .put2 .ensures) (c .before .before .put-decimal .ensures))
+returns-2 c = spelled (simp (c .before .before .before .before .before .c .given .1)) (omega arith) (c .before .before .put-number .ensures)
 
 pub put-cause-spec : {M : Type 1} → statement M
 put-cause-spec =
     tie.close
     (tie.spec
     enum-told
-    slice-aggregate-put
-    put-requires
+    put-two-requires
     enum-known-c
-    slice-aggregate-put-2
-    put-requires-2
-    wide8-requires
-    put-decimal-requires
+    cast-put-number
+    put-number-requires
     same-length
     returns
     same-length-2

@@ -1,7 +1,6 @@
 use native.Mathlib.Omega.{arith}
 use Rattle.line.specs.Columns.{columnsOf}
-use Rattle.text.proofs.Pieced.{spelled, two}
-use Rattle.line.proofs.Words.{refused-text}
+use Rattle.text.proofs.Pieced.{spelled}
 use borrow.Author.Needs.{needs}
 use Rattle.line.proofs.put_columns.Statement.{statement}
 use Rattle.line.proofs.put_columns.Tie as tie
@@ -15,20 +14,8 @@ put-taken-requires c κs = search needs
 enum-known-r-2 : tie.Need-enum-known-r-2
 enum-known-r-2 c = search needs
 
-fault-digit-requires : tie.Need-fault-digit-requires
-fault-digit-requires c κs = search needs
-
-slice-aggregate-put : tie.Need-slice-aggregate-put
-slice-aggregate-put c = search needs
-
-put-requires : tie.Need-put-requires
-put-requires c κs = search needs
-
-slice-aggregate-put-2 : tie.Need-slice-aggregate-put-2
-slice-aggregate-put-2 c = search needs
-
-put-requires-2 : tie.Need-put-requires-2
-put-requires-2 c κs = search needs
+put-refused-requires : tie.Need-put-refused-requires
+put-refused-requires c κs = search needs
 
 same-length : tie.Need-same-length
 same-length c = search needs
@@ -41,8 +28,7 @@ same-length-2 : tie.Need-same-length-2
 same-length-2 c = search needs
 
 returns-2 : tie.Need-returns-2
-unfolding columnsOf
-returns-2 c = spelled (simp (c .before .before .before .before .before .before .before .before .before .before .before .before .r2 .given .1, refused-text, c .before .before .before .before .before .before .before .before .before .before .fault-digit .ensures)) (omega arith) (two (omega arith) (c .before .before .before .before .before .before .before .put .ensures) (c .before .before .put2 .ensures))
+returns-2 c = spelled (simp (c .before .before .before .before .before .r2 .given .1)) (omega arith) (c .before .before .put-refused .ensures)
 
 pub put-columns-spec : {M : Type 1} → statement M
 put-columns-spec =
@@ -51,11 +37,7 @@ put-columns-spec =
     enum-known-r
     put-taken-requires
     enum-known-r-2
-    fault-digit-requires
-    slice-aggregate-put
-    put-requires
-    slice-aggregate-put-2
-    put-requires-2
+    put-refused-requires
     same-length
     returns
     same-length-2

@@ -1,8 +1,16 @@
+use mathlib.Core.Path.{_∙_}
+use lib.ListN.{length-set}
 use native.Mathlib.Omega.{arith}
-use Rattle.text.proofs.Pieced.{settled}
+use Rattle.line.proofs.Joined.{marked}
 use borrow.Author.Needs.{needs}
 use Rattle.line.proofs.put_hex.Statement.{statement}
 use Rattle.line.proofs.put_hex.Tie as tie
+
+slice-write-buf : tie.Need-slice-write-buf
+slice-write-buf c = search needs
+
+add-write-hex : tie.Need-add-write-hex
+add-write-hex c = search needs
 
 write-hex-requires : tie.Need-write-hex-requires
 write-hex-requires c κs = search needs
@@ -11,10 +19,12 @@ end-of-requires : tie.Need-end-of-requires
 end-of-requires c κs = search needs
 
 same-length : tie.Need-same-length
-same-length c = search needs
+same-length c = c .before .before .buf .given ∙ simp length-set
 
 returns : tie.Need-returns
-returns c = settled (c .before .before .before .before .before .before .pre) (omega arith) (c .before .before .before .write-hex .ensures) (c .end-of .ensures)
+returns c = marked {m = 2} (c .before .before .before .before .before .before .pre) (omega arith) (c .before .before .before .write-hex .ensures) (c .end-of .ensures)
 
 pub put-hex-spec : {M : Type 1} → statement M
-put-hex-spec = tie.close (tie.spec write-hex-requires end-of-requires same-length returns)
+put-hex-spec =
+    tie.close
+    (tie.spec slice-write-buf add-write-hex write-hex-requires end-of-requires same-length returns)

@@ -1,5 +1,4 @@
 use native.Mathlib.Omega.{arith}
-use Rattle.text.specs.Hex.{digitOf}
 use Rattle.text.proofs.Pieced.{spelled}
 use borrow.Author.Needs.{needs}
 use Rattle.line.proofs.put_single.Statement.{statement}
@@ -8,83 +7,63 @@ use Rattle.line.proofs.put_single.Tie as tie
 enum-told : tie.Need-enum-told
 enum-told c = search needs
 
-slice-aggregate-put : tie.Need-slice-aggregate-put
-slice-aggregate-put c = search needs
-
-put-requires : tie.Need-put-requires
-put-requires c κs = search needs
+put-two-requires : tie.Need-put-two-requires
+put-two-requires c κs = search needs
 
 enum-told-2 : tie.Need-enum-told-2
 enum-told-2 c = search needs
 
-slice-aggregate-put-2 : tie.Need-slice-aggregate-put-2
-slice-aggregate-put-2 c = search needs
-
-put-requires-2 : tie.Need-put-requires-2
-put-requires-2 c κs = search needs
+put-hex-requires : tie.Need-put-hex-requires
+put-hex-requires c κs = search needs
 
 enum-told-3 : tie.Need-enum-told-3
 enum-told-3 c = search needs
 
-slice-aggregate-put-3 : tie.Need-slice-aggregate-put-3
-slice-aggregate-put-3 c = search needs
-
-put-requires-3 : tie.Need-put-requires-3
-put-requires-3 c κs = search needs
+put-hex-requires-2 : tie.Need-put-hex-requires-2
+put-hex-requires-2 c κs = search needs
 
 enum-told-4 : tie.Need-enum-told-4
 enum-told-4 c = search needs
 
-slice-aggregate-put-4 : tie.Need-slice-aggregate-put-4
-slice-aggregate-put-4 c = search needs
-
-put-requires-4 : tie.Need-put-requires-4
-put-requires-4 c κs = search needs
+put-hex-requires-3 : tie.Need-put-hex-requires-3
+put-hex-requires-3 c κs = search needs
 
 same-length : tie.Need-same-length
 same-length c = search needs
 
 returns : tie.Need-returns
-unfolding digitOf
-returns c = spelled (simp (c .before .before .before .before .before .enum-told .given .1)) (omega arith) (c .before .before .put .ensures)
+returns c = spelled (simp (c .before .before .before .before .enum-told .given .1)) (omega arith) (c .before .before .put-two .ensures)
 
 same-length-2 : tie.Need-same-length-2
 same-length-2 c = search needs
 
 returns-2 : tie.Need-returns-2
-unfolding digitOf
-returns-2 c = spelled (simp (c .before .before .before .before .before .enum-told2 .given .1)) (omega arith) (c .before .before .put2 .ensures)
+returns-2 c = spelled (simp (c .before .before .before .before .enum-told2 .given .1)) (omega arith) (c .before .before .put-hex .ensures)
 
 same-length-3 : tie.Need-same-length-3
 same-length-3 c = search needs
 
 returns-3 : tie.Need-returns-3
-unfolding digitOf
-returns-3 c = spelled (simp (c .before .before .before .before .before .enum-told3 .given .1)) (omega arith) (c .before .before .put3 .ensures)
+returns-3 c = spelled (simp (c .before .before .before .before .enum-told3 .given .1)) (omega arith) (c .before .before .put-hex2 .ensures)
 
 same-length-4 : tie.Need-same-length-4
 same-length-4 c = search needs
 
 returns-4 : tie.Need-returns-4
-unfolding digitOf
-returns-4 c = spelled (simp (c .before .before .before .before .before .enum-told4 .given .1)) (omega arith) (c .before .before .put4 .ensures)
+returns-4 c = spelled (simp (c .before .before .before .before .enum-told4 .given .1)) (omega arith) (c .before .before .put-hex3 .ensures)
 
 pub put-single-spec : {M : Type 1} → statement M
 put-single-spec =
     tie.close
     (tie.spec
     enum-told
-    slice-aggregate-put
-    put-requires
+    put-two-requires
     enum-told-2
-    slice-aggregate-put-2
-    put-requires-2
+    put-hex-requires
     enum-told-3
-    slice-aggregate-put-3
-    put-requires-3
+    put-hex-requires-2
     enum-told-4
-    slice-aggregate-put-4
-    put-requires-4
+    put-hex-requires-3
     same-length
     returns
     same-length-2

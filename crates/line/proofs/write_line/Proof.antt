@@ -1,8 +1,9 @@
-use mathlib.Core.Path.{refl}
-use native.Mathlib.Omega.{arith}
-use Rattle.room.proofs.Outcome.{put-in}
-use Rattle.line.specs.Line.{lineOf}
+use lib.ListN.{length-set}
 use Rattle.text.proofs.Pieced.{at-start}
+use Rattle.line.proofs.Joined.{room-left, laid-out}
+use native.Mathlib.Omega.{arith}
+use Rattle.line.specs.Line.{lineWith, lineOf}
+use Rattle.text.proofs.Digits.{at-most-twenty}
 use borrow.Author.Needs.{needs}
 use Rattle.line.proofs.write_line.Statement.{statement}
 use Rattle.line.proofs.write_line.Tie as tie
@@ -10,25 +11,26 @@ use Rattle.line.proofs.write_line.Tie as tie
 read-message-requires : tie.Need-read-message-requires
 read-message-requires c κs = search needs
 
-sub-if2 : tie.Need-sub-if2
-sub-if2 c = search needs
+slice-aggregate-write-decimal : tie.Need-slice-aggregate-write-decimal
+slice-aggregate-write-decimal c = search needs
 
-put-line-requires : tie.Need-put-line-requires
-put-line-requires c κs = search needs
+write-decimal-requires : tie.Need-write-decimal-requires
+write-decimal-requires c κs = search needs
 
-same-length : tie.Need-same-length
-same-length c = search needs
+end-of-requires : tie.Need-end-of-requires
+end-of-requires c κs = search needs
 
-returns : tie.Need-returns
-unfolding lineOf
-returns c = let p = c .before .before .put-line .ensures in
-    rw (← (c .before .before .before .before .before .before .read-message .ensures)) (put-in refl (omega (arith, p .small)) (p .end) (p .octets))
+slice-aggregate-put-columns : tie.Need-slice-aggregate-put-columns
+slice-aggregate-put-columns c = search needs
 
-slice-aggregate-put-line : tie.Need-slice-aggregate-put-line
-slice-aggregate-put-line c = search needs
+put-columns-requires : tie.Need-put-columns-requires
+put-columns-requires c κs = room-left (search needs) (at-most-twenty _ (omega arith)) (c .before .before .before .write-decimal .ensures) (c .before .end-of .ensures)
 
-put-line-requires-2 : tie.Need-put-line-requires-2
-put-line-requires-2 c κs = search needs
+array-write-line : tie.Need-array-write-line
+array-write-line c = let p = laid-out (search needs) (at-most-twenty _ (omega arith)) (c .before .before .before .before .before .write-decimal .ensures) (c .before .before .before .end-of .ensures) (c .before .put-columns .ensures) in omega (arith, p .end, p .small)
+
+add-write-octets : tie.Need-add-write-octets
+add-write-octets c = let p = laid-out (search needs) (at-most-twenty _ (omega arith)) (c .before .before .before .before .before .before .write-decimal .ensures) (c .before .before .before .before .end-of .ensures) (c .before .before .put-columns .ensures) in record { fits = omega (arith, p .end, p .small) }
 
 sub-write-octets : tie.Need-sub-write-octets
 sub-write-octets c = search needs
@@ -37,32 +39,33 @@ part-write-octets-start : tie.Need-part-write-octets-start
 part-write-octets-start c = search needs
 
 part-write-octets-end : tie.Need-part-write-octets-end
-part-write-octets-end c = search needs
+part-write-octets-end c = let p = laid-out (search needs) (at-most-twenty _ (omega arith)) (c .before .before .before .before .before .before .before .write-decimal .ensures) (c .before .before .before .before .before .end-of .ensures) (c .before .before .before .put-columns .ensures) in simp length-set (omega (arith, p .end, p .small))
 
 write-octets-requires : tie.Need-write-octets-requires
 write-octets-requires c κs = search needs
 
-same-length-2 : tie.Need-same-length-2
-same-length-2 c = search needs
+same-length : tie.Need-same-length
+same-length c = search needs
 
-returns-2 : tie.Need-returns-2
-unfolding lineOf
-returns-2 c = rw (← (c .before .before .before .before .before .before .before .before .before .before .read-message .ensures), ← (at-start (c .before .before .before .before .before .before .before .put-line2 .ensures))) (c .before .before .write-octets .ensures)
+returns : tie.Need-returns
+unfolding lineWith lineOf
+returns c = rw (← (c .before .before .before .before .before .before .before .before .before .before .before .before .before .read-message .ensures), ← (at-start (laid-out (search needs) (at-most-twenty _ (omega arith)) (c .before .before .before .before .before .before .before .before .before .before .before .write-decimal .ensures) (c .before .before .before .before .before .before .before .before .before .end-of .ensures) (c .before .before .before .before .before .before .before .put-columns .ensures)))) (c .before .before .write-octets .ensures)
 
 pub write-line-spec : {M : Type 1} → statement M
 write-line-spec =
     tie.close
     (tie.spec
     read-message-requires
-    sub-if2
-    put-line-requires
-    same-length
-    returns
-    slice-aggregate-put-line
-    put-line-requires-2
+    slice-aggregate-write-decimal
+    write-decimal-requires
+    end-of-requires
+    slice-aggregate-put-columns
+    put-columns-requires
+    array-write-line
+    add-write-octets
     sub-write-octets
     part-write-octets-start
     part-write-octets-end
     write-octets-requires
-    same-length-2
-    returns-2)
+    same-length
+    returns)
