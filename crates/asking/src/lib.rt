@@ -43,7 +43,7 @@ pub fn asks(a: Asking, side: Side) -> bool
     }
 }
 
-pub fn with_ask(a: Asking, side: Side, b: bool) -> Asking
+fn with_ask(a: Asking, side: Side, b: bool) -> Asking
     ensures { λ r. ⌜ r ≡ withAskOf a side b ⌝ }
 {
     match side {

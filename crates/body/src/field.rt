@@ -53,7 +53,7 @@ pub fn what_in(x: u8) -> What
 }
 
 // Whether every octet is zero.
-pub fn blank(s: &[u8]) -> bool
+fn blank(s: &[u8]) -> bool
     ensures { λ r. ⌜ r ≡ blankOf (now (s .entry)) ⌝ }
 {
     let mut i = 0;

@@ -46,7 +46,7 @@ pub fn grants(m: Meters, burst: u16) -> Meters
     }
 }
 
-pub fn in_force_after(m: Meters, burst: u16, three: Fate) -> Meters
+fn in_force_after(m: Meters, burst: u16, three: Fate) -> Meters
     ensures { λ r. ⌜ r ≡ inForceAfterOf m burst three ⌝ }
 {
     match three {
@@ -57,7 +57,7 @@ pub fn in_force_after(m: Meters, burst: u16, three: Fate) -> Meters
     }
 }
 
-pub fn answered_call(c: Call, next: Phase, fates: Fates) -> Call
+fn answered_call(c: Call, next: Phase, fates: Fates) -> Call
     ensures { λ r. ⌜ r ≡ answeredCallOf c next fates ⌝ }
 {
     let rights = c.rights;
@@ -76,7 +76,7 @@ pub fn answered_call(c: Call, next: Phase, fates: Fates) -> Call
 }
 
 // The message goes on to the caller with the answers, and the call enters its next phase.
-pub fn goes_on(c: Call, kind: Kind, next: Phase, fates: Fates, seen: Seen) -> Reply
+fn goes_on(c: Call, kind: Kind, next: Phase, fates: Fates, seen: Seen) -> Reply
     ensures { λ r. ⌜ r ≡ goesOnOf c kind next fates seen ⌝ }
 {
     let call = answered_call(c, next, fates);
@@ -93,7 +93,7 @@ pub fn goes_on(c: Call, kind: Kind, next: Phase, fates: Fates, seen: Seen) -> Re
 }
 
 // A required service was not accepted: both users are cleared, and the element goes nowhere.
-pub fn clears(c: Call, cause: u8, fates: Fates, seen: Seen) -> Reply
+fn clears(c: Call, cause: u8, fates: Fates, seen: Seen) -> Reply
     ensures { λ r. ⌜ r ≡ clearsOf c cause fates seen ⌝ }
 {
     Reply {
@@ -110,7 +110,7 @@ pub fn clears(c: Call, cause: u8, fates: Fates, seen: Seen) -> Reply
     }
 }
 
-pub fn outcome(c: Call, kind: Kind, next: Phase, fates: Fates, seen: Seen, failure: Cause) -> Reply
+fn outcome(c: Call, kind: Kind, next: Phase, fates: Fates, seen: Seen, failure: Cause) -> Reply
     ensures { λ r. ⌜ r ≡ outcomeOf c kind next fates seen failure ⌝ }
 {
     match failure {
@@ -120,7 +120,7 @@ pub fn outcome(c: Call, kind: Kind, next: Phase, fates: Fates, seen: Seen, failu
 }
 
 // Answers to services 1 and 2 are due at ALERTING.
-pub fn alerting_fates(s: Standings, a: Answers) -> Fates
+fn alerting_fates(s: Standings, a: Answers) -> Fates
     ensures { λ r. ⌜ r ≡ alertingFatesOf s a ⌝ }
 {
     let one = s.one;
@@ -135,7 +135,7 @@ pub fn alerting_fates(s: Standings, a: Answers) -> Fates
 }
 
 // The answer to service 3 is due at CONNECT; without ALERTING the one to service 1 too, and service 2 counts as unanswered.
-pub fn connect_fates(alerted: bool, s: Standings, a: Answers) -> Fates
+fn connect_fates(alerted: bool, s: Standings, a: Answers) -> Fates
     ensures { λ r. ⌜ r ≡ connectFatesOf alerted s a ⌝ }
 {
     let one = s.one;

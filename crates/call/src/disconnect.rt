@@ -35,7 +35,7 @@ use standing::no_answers;
 use standing::rejection;
 
 // Only the called side has anything to answer.
-pub fn heard_answers(side: Side, a: Answers) -> Answers
+fn heard_answers(side: Side, a: Answers) -> Answers
     ensures { λ r. ⌜ r ≡ heardAnswersOf side a ⌝ }
 {
     match side {
@@ -45,7 +45,7 @@ pub fn heard_answers(side: Side, a: Answers) -> Answers
 }
 
 // `asks` says whether the caller's own FACILITY request is open.
-pub fn closing_facilities(s: Standings, asks: bool, a: Answers) -> Facilities
+fn closing_facilities(s: Standings, asks: bool, a: Answers) -> Facilities
     ensures { λ r. ⌜ r ≡ closingFacilitiesOf s asks a ⌝ }
 {
     let one = s.one;
@@ -62,7 +62,7 @@ pub fn closing_facilities(s: Standings, asks: bool, a: Answers) -> Facilities
 }
 
 // The record keeps what it had, but for service 1 accepted at the last moment.
-pub fn closed_call(c: Call, one: Standing) -> Call
+fn closed_call(c: Call, one: Standing) -> Call
     ensures { λ r. ⌜ r ≡ closedCallOf c one ⌝ }
 {
     let rights = c.rights;
@@ -86,7 +86,7 @@ pub fn closed_call(c: Call, one: Standing) -> Call
 }
 
 // `answers` are those that count.
-pub fn passed_on(c: Call, side: Side, cause: u8, answers: Answers, seen: Seen) -> Reply
+fn passed_on(c: Call, side: Side, cause: u8, answers: Answers, seen: Seen) -> Reply
     ensures { λ r. ⌜ r ≡ passedOnOf c side cause answers seen ⌝ }
 {
     let standings = c.standings;
@@ -112,7 +112,7 @@ pub fn passed_on(c: Call, side: Side, cause: u8, answers: Answers, seen: Seen) -
     )
 }
 
-pub fn ends(c: Call, side: Side) -> Reply
+fn ends(c: Call, side: Side) -> Reply
     ensures { λ r. ⌜ r ≡ endsOf c side ⌝ }
 {
     reply_to(

@@ -34,7 +34,7 @@ use standing::Said;
 use standing::Standings;
 use standing::in_force;
 
-pub fn facility_verdict(c: Call, side: Side, what: What) -> Answer
+fn facility_verdict(c: Call, side: Side, what: What) -> Answer
     ensures { λ r. ⌜ r ≡ facilityVerdictOf c side what ⌝ }
 {
     let rights = c.rights;
@@ -47,7 +47,7 @@ pub fn facility_verdict(c: Call, side: Side, what: What) -> Answer
     facility_answer(what, request, answer)
 }
 
-pub fn facility_meters(m: Meters, burst: u16, what: What) -> Meters
+fn facility_meters(m: Meters, burst: u16, what: What) -> Meters
     ensures { λ r. ⌜ r ≡ facilityMetersOf m burst what ⌝ }
 {
     match what {
@@ -58,7 +58,7 @@ pub fn facility_meters(m: Meters, burst: u16, what: What) -> Meters
     }
 }
 
-pub fn facility_call(c: Call, side: Side, what: What) -> Call
+fn facility_call(c: Call, side: Side, what: What) -> Call
     ensures { λ r. ⌜ r ≡ facilityCallOf c side what ⌝ }
 {
     let rights = c.rights;
@@ -84,7 +84,7 @@ pub fn facility_call(c: Call, side: Side, what: What) -> Call
 }
 
 // FACILITY about service 3.
-pub fn about_three(s: Said) -> Sent
+fn about_three(s: Said) -> Sent
     ensures { λ r. ⌜ r ≡ aboutThreeOf s ⌝ }
 {
     saying(
@@ -99,7 +99,7 @@ pub fn about_three(s: Said) -> Sent
     )
 }
 
-pub fn passes_facility(c: Call, side: Side, what: What, verdict: Answer) -> Reply
+fn passes_facility(c: Call, side: Side, what: What, verdict: Answer) -> Reply
     ensures { λ r. ⌜ r ≡ passesFacilityOf c side what verdict ⌝ }
 {
     let refusal = only_if(not_granted(verdict), about_three(Said::ByNetwork));

@@ -33,7 +33,7 @@ use service::element::whole;
 use standing::in_force;
 
 // The meter of what a side sends.
-pub fn meter_of(m: Meters, side: Side) -> Meter
+fn meter_of(m: Meters, side: Side) -> Meter
     ensures { λ r. ⌜ r ≡ meterOf m side ⌝ }
 {
     match side {
@@ -43,7 +43,7 @@ pub fn meter_of(m: Meters, side: Side) -> Meter
 }
 
 // The meters with another one for what a side sends.
-pub fn with_meter(m: Meters, side: Side, n: Meter) -> Meters
+fn with_meter(m: Meters, side: Side, n: Meter) -> Meters
     ensures { λ r. ⌜ r ≡ withMeterOf m side n ⌝ }
 {
     let calling = m.calling;
@@ -78,7 +78,7 @@ pub fn with_meters(c: Call, m: Meters) -> Call
 }
 
 // What a side's message meets in its meter.
-pub fn information_passage(c: Call, side: Side) -> Passage
+fn information_passage(c: Call, side: Side) -> Passage
     ensures { λ r. ⌜ r ≡ informationPassageOf c side ⌝ }
 {
     let rights = c.rights;
@@ -95,7 +95,7 @@ pub fn information_passage(c: Call, side: Side) -> Passage
 }
 
 // What the passage makes of the call, and the messages.
-pub fn carried(c: Call, side: Side, more: bool, p: Passage) -> Reply
+fn carried(c: Call, side: Side, more: bool, p: Passage) -> Reply
     ensures { λ r. ⌜ r ≡ carriedOf c side more p ⌝ }
 {
     let meters = c.meters;
@@ -111,7 +111,7 @@ pub fn carried(c: Call, side: Side, more: bool, p: Passage) -> Reply
 }
 
 // 17: the one refusal that has the element's note.
-pub fn with_element(c: Call, seen: Seen, r: Reply) -> Reply
+fn with_element(c: Call, seen: Seen, r: Reply) -> Reply
     ensures { λ s. ⌜ s ≡ withElementOf c seen r ⌝ }
 {
     if whole(seen) {

@@ -31,7 +31,7 @@ use standing::passed_requests;
 use standing::remains;
 use standing::standings_of;
 
-pub fn setup_phase(lacking: bool) -> Phase
+fn setup_phase(lacking: bool) -> Phase
     ensures { λ r. ⌜ r ≡ setupPhaseOf lacking ⌝ }
 {
     if lacking {
@@ -42,7 +42,7 @@ pub fn setup_phase(lacking: bool) -> Phase
 }
 
 // The record of a new call, whole.
-pub fn filled(reference: u16, rights: Rights, phase: Phase, standings: Standings) -> Call
+fn filled(reference: u16, rights: Rights, phase: Phase, standings: Standings) -> Call
     ensures { λ r. ⌜ r ≡ filledOf reference rights phase standings ⌝ }
 {
     Call {
@@ -55,7 +55,7 @@ pub fn filled(reference: u16, rights: Rights, phase: Phase, standings: Standings
     }
 }
 
-pub fn to_caller(lacking: bool, refusals: Facilities) -> Sent
+fn to_caller(lacking: bool, refusals: Facilities) -> Sent
     ensures { λ r. ⌜ r ≡ toCallerOf lacking refusals ⌝ }
 {
     if lacking {
@@ -70,7 +70,7 @@ pub fn to_caller(lacking: bool, refusals: Facilities) -> Sent
     }
 }
 
-pub fn to_called(lacking: bool, requests: Facilities, element: bool) -> Sent
+fn to_called(lacking: bool, requests: Facilities, element: bool) -> Sent
     ensures { λ r. ⌜ r ≡ toCalledOf lacking requests element ⌝ }
 {
     if lacking {
@@ -80,7 +80,7 @@ pub fn to_called(lacking: bool, requests: Facilities, element: bool) -> Sent
     }
 }
 
-pub fn proceeds(reference: u16, rights: Rights, requests: Requests, seen: Seen) -> Reply
+fn proceeds(reference: u16, rights: Rights, requests: Requests, seen: Seen) -> Reply
     ensures { λ r. ⌜ r ≡ proceedsOf reference rights requests seen ⌝ }
 {
     let lacking = lacks(rights, requests);

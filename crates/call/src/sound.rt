@@ -15,7 +15,7 @@ use service::rights::rights_fit;
 use standing::Standing;
 use standing::Standings;
 
-pub fn no_rights() -> Rights
+fn no_rights() -> Rights
     ensures { λ r. ⌜ r ≡ noRights ⌝ }
 {
     Rights {
@@ -37,7 +37,7 @@ pub fn empty_meters() -> Meters
     }
 }
 
-pub fn no_services() -> Standings
+fn no_services() -> Standings
     ensures { λ r. ⌜ r ≡ noServices ⌝ }
 {
     Standings {
@@ -47,7 +47,7 @@ pub fn no_services() -> Standings
     }
 }
 
-pub fn fields_fit(c: Call) -> bool
+fn fields_fit(c: Call) -> bool
     ensures { λ r. ⌜ r ≡ fieldsFitOf c ⌝ }
 {
     let rights = c.rights;

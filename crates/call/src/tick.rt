@@ -20,7 +20,7 @@ use service::element::Note;
 use service::rights::Rights;
 use standing::in_force;
 
-pub fn ticked_meters(m: Meters, r: Rights) -> Meters
+fn ticked_meters(m: Meters, r: Rights) -> Meters
     ensures { λ n. ⌜ n ≡ tickedMetersOf m r ⌝ }
 {
     let calling = m.calling;
@@ -32,20 +32,20 @@ pub fn ticked_meters(m: Meters, r: Rights) -> Meters
 }
 
 // `runs` says whether service 3 is in force in Active: otherwise a tick does nothing.
-pub fn refills(m: Meters, r: Rights, runs: bool) -> Meters
+fn refills(m: Meters, r: Rights, runs: bool) -> Meters
     ensures { λ n. ⌜ n ≡ refillsOf m r runs ⌝ }
 {
     if runs { ticked_meters(m, r) } else { m }
 }
 
 // The sender of a direction whose mark is set is told that it is ready.
-pub fn ready(m: Meter, runs: bool) -> Sent
+fn ready(m: Meter, runs: bool) -> Sent
     ensures { λ s. ⌜ s ≡ readyOf m runs ⌝ }
 {
     only_if(runs & m.mark, congestion(Level::Ready))
 }
 
-pub fn passes_tick(c: Call) -> Reply
+fn passes_tick(c: Call) -> Reply
     ensures { λ r. ⌜ r ≡ passesTickOf c ⌝ }
 {
     let rights = c.rights;

@@ -39,7 +39,7 @@ pub enum Wanted {
     Old,
 }
 
-pub fn wants(event: Event) -> Wanted
+fn wants(event: Event) -> Wanted
     ensures { λ r. ⌜ r ≡ wantedOf event ⌝ }
 {
     match event {
@@ -85,7 +85,7 @@ pub fn opens(event: Event) -> bool
 }
 
 // Whether reference and rights of a SETUP are in range.
-pub fn ranged(event: Event) -> bool
+fn ranged(event: Event) -> bool
     ensures { λ r. ⌜ r ≡ rangedOf event ⌝ }
 {
     match wants(event) {
@@ -95,7 +95,7 @@ pub fn ranged(event: Event) -> bool
 }
 
 // A SETUP in range: 22, 21, or the lowest free place.
-pub fn new_place(held: Found, free: Found) -> Choice
+fn new_place(held: Found, free: Found) -> Choice
     ensures { λ r. ⌜ r ≡ newPlaceOf held free ⌝ }
 {
     match held {
@@ -108,7 +108,7 @@ pub fn new_place(held: Found, free: Found) -> Choice
 }
 
 // Any other event: 23, or the live call's place.
-pub fn old_place(held: Found) -> Choice
+fn old_place(held: Found) -> Choice
     ensures { λ r. ⌜ r ≡ oldPlaceOf held ⌝ }
 {
     match held {

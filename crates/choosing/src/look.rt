@@ -21,7 +21,7 @@ pub fn is_free(c: Call) -> bool
     !c.live()
 }
 
-pub fn is_at(f: Found) -> bool
+fn is_at(f: Found) -> bool
     ensures { λ r. ⌜ r ≡ isAt f ⌝ }
 {
     match f {

@@ -38,7 +38,7 @@ pub struct Ticking {
     pub ticked: Ticked,
 }
 
-pub fn spent_number(s: Spent) -> u8
+fn spent_number(s: Spent) -> u8
     ensures { λ r. ⌜ r ≡ spentNumber s ⌝ }
 {
     match s {
@@ -51,7 +51,7 @@ pub fn spent_number(s: Spent) -> u8
     }
 }
 
-pub fn ticked_number(t: Ticked) -> u8
+fn ticked_number(t: Ticked) -> u8
     ensures { λ r. ⌜ r ≡ tickedNumber t ⌝ }
 {
     match t {
@@ -61,7 +61,7 @@ pub fn ticked_number(t: Ticked) -> u8
     }
 }
 
-pub fn spent_by(p: Passage) -> Spent
+fn spent_by(p: Passage) -> Spent
     ensures { λ r. ⌜ r ≡ spentBy p ⌝ }
 {
     match p {
@@ -74,13 +74,13 @@ pub fn spent_by(p: Passage) -> Spent
 }
 
 // The burst that the meter is held to is held to its own range first.
-pub fn lent_fits(m: Meter, burst: u16) -> bool
+fn lent_fits(m: Meter, burst: u16) -> bool
     ensures { λ r. ⌜ r ≡ lentFitsOf m burst ⌝ }
 {
     (1 <= burst) & (burst <= GREATEST_BURST) & meter_fits(m, burst)
 }
 
-pub fn spends(m: Meter, burst: u16, two: bool, three: bool) -> Spending
+fn spends(m: Meter, burst: u16, two: bool, three: bool) -> Spending
     ensures { λ r. ⌜ r ≡ spendsOf m burst two three ⌝ }
 {
     if lent_fits(m, burst) {
@@ -97,7 +97,7 @@ pub fn spends(m: Meter, burst: u16, two: bool, three: bool) -> Spending
     }
 }
 
-pub fn ticks(m: Meter, burst: u16, refill: u16) -> Ticking
+fn ticks(m: Meter, burst: u16, refill: u16) -> Ticking
     ensures { λ r. ⌜ r ≡ ticksOf m burst refill ⌝ }
 {
     if lent_fits(m, burst) & (1 <= refill) & (refill <= GREATEST_REFILL) {

@@ -51,7 +51,7 @@ pub fn granted(m: Meter, burst: u16) -> Meter
 }
 
 // The sum is tested before it is made, since it may not fit.
-pub fn refilled(credit: u16, burst: u16, refill: u16) -> u16
+fn refilled(credit: u16, burst: u16, refill: u16) -> u16
     ensures { λ r. ⌜ r ≡ refilledOf credit burst refill ⌝ }
 {
     if credit <= burst {
@@ -76,7 +76,7 @@ pub fn ticked(m: Meter, burst: u16, refill: u16) -> Meter
 }
 
 // A message that service 3 pays for, or that is dropped for credit.
-pub fn under_three(m: Meter) -> Passage
+fn under_three(m: Meter) -> Passage
     ensures { λ r. ⌜ r ≡ underThreeOf m ⌝ }
 {
     if 0 < m.credit {

@@ -38,7 +38,7 @@ fn wide(x: u8) -> usize
     x as usize
 }
 
-pub fn well_formed(e: &[u8]) -> bool
+fn well_formed(e: &[u8]) -> bool
     ensures { λ r. ⌜ r ≡ wellFormedOf (now (e .entry)) ⌝ }
 {
     if LEAST_ELEMENT <= e.len() {

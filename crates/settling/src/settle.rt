@@ -25,14 +25,14 @@ pub struct Settled {
 }
 
 // SETUP starts a new call, whatever its place held.
-pub fn subject(c: Call, event: Event) -> Call
+fn subject(c: Call, event: Event) -> Call
     ensures { λ r. ⌜ r ≡ subjectOf c event ⌝ }
 {
     if opens(event) { Call::fresh() } else { c }
 }
 
 // Of the refusals, only 14 may change a record.
-pub fn changes(a: Answer) -> bool
+fn changes(a: Answer) -> bool
     ensures { λ r. ⌜ r ≡ changesOf a ⌝ }
 {
     match a {
@@ -51,7 +51,7 @@ pub fn changes(a: Answer) -> bool
 }
 
 // What a place that held c holds after the reply.
-pub fn kept(c: Call, r: Reply) -> Call
+fn kept(c: Call, r: Reply) -> Call
     ensures { λ k. ⌜ k ≡ keptOf c r ⌝ }
 {
     let next = r.call;
@@ -59,7 +59,7 @@ pub fn kept(c: Call, r: Reply) -> Call
     if changes(a) { next } else { c }
 }
 
-pub fn answered(r: Reply) -> Outcome
+fn answered(r: Reply) -> Outcome
     ensures { λ o. ⌜ o ≡ outcomeOf r ⌝ }
 {
     let a = r.answer;

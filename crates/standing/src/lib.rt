@@ -116,7 +116,7 @@ pub fn remains(s: Standing) -> bool
 }
 
 // How a service stands after SETUP; `had` says whether the rights have it.
-pub fn asked_standing(q: Request, had: bool) -> Standing
+fn asked_standing(q: Request, had: bool) -> Standing
     ensures { λ r. ⌜ r ≡ askedStandingOf q had ⌝ }
 {
     match q {
@@ -138,7 +138,7 @@ pub fn asked_standing(q: Request, had: bool) -> Standing
     }
 }
 
-pub fn implied(q: Request, s: Seen) -> bool
+fn implied(q: Request, s: Seen) -> bool
     ensures { λ r. ⌜ r ≡ impliedOf q s ⌝ }
 {
     match q {
@@ -149,7 +149,7 @@ pub fn implied(q: Request, s: Seen) -> bool
 }
 
 // Service 1 may be asked for by its element alone, and is then in force at once: nobody answers it.
-pub fn first_standing(q: Request, s: Seen, had: bool) -> Standing
+fn first_standing(q: Request, s: Seen, had: bool) -> Standing
     ensures { λ r. ⌜ r ≡ firstStandingOf q s had ⌝ }
 {
     if implied(q, s) {
@@ -164,7 +164,7 @@ pub fn first_standing(q: Request, s: Seen, had: bool) -> Standing
 }
 
 // A required service that the rights lack.
-pub fn lacking(q: Request, had: bool) -> bool
+fn lacking(q: Request, had: bool) -> bool
     ensures { λ r. ⌜ r ≡ lackingOf q had ⌝ }
 {
     match q {
@@ -175,7 +175,7 @@ pub fn lacking(q: Request, had: bool) -> bool
 }
 
 // What SETUP tells the called user.
-pub fn passed_request(q: Request, had: bool) -> Said
+fn passed_request(q: Request, had: bool) -> Said
     ensures { λ r. ⌜ r ≡ passedRequestOf q had ⌝ }
 {
     match q {
@@ -186,7 +186,7 @@ pub fn passed_request(q: Request, had: bool) -> Said
 }
 
 // What the caller is told of its request at once. Only an explicit request is answered.
-pub fn network_refusal(q: Request, had: bool) -> Said
+fn network_refusal(q: Request, had: bool) -> Said
     ensures { λ r. ⌜ r ≡ networkRefusalOf q had ⌝ }
 {
     match q {
@@ -267,7 +267,7 @@ pub fn decided(s: Standing, g: Given) -> Fate
     }
 }
 
-pub fn settled(s: Standing, f: Fate) -> Standing
+fn settled(s: Standing, f: Fate) -> Standing
     ensures { λ r. ⌜ r ≡ settledOf s f ⌝ }
 {
     match f {
@@ -279,7 +279,7 @@ pub fn settled(s: Standing, f: Fate) -> Standing
 }
 
 // What the caller is told where the message goes on.
-pub fn told(f: Fate) -> Said
+fn told(f: Fate) -> Said
     ensures { λ r. ⌜ r ≡ toldOf f ⌝ }
 {
     match f {
@@ -291,7 +291,7 @@ pub fn told(f: Fate) -> Said
 }
 
 // What the caller is told where the call is cleared.
-pub fn declined(f: Fate) -> Said
+fn declined(f: Fate) -> Said
     ensures { λ r. ⌜ r ≡ declinedOf f ⌝ }
 {
     match f {
@@ -302,7 +302,7 @@ pub fn declined(f: Fate) -> Said
     }
 }
 
-pub fn failure(f: Fate) -> Cause
+fn failure(f: Fate) -> Cause
     ensures { λ r. ⌜ r ≡ failureOf f ⌝ }
 {
     match f {
