@@ -38,7 +38,7 @@ pub struct Ticking {
     pub ticked: Ticked,
 }
 
-fn spent_number(s: Spent) -> u8
+pub fn spent_number(s: Spent) -> u8
     ensures { λ r. ⌜ r ≡ spentNumber s ⌝ }
 {
     match s {
@@ -51,7 +51,7 @@ fn spent_number(s: Spent) -> u8
     }
 }
 
-fn ticked_number(t: Ticked) -> u8
+pub fn ticked_number(t: Ticked) -> u8
     ensures { λ r. ⌜ r ≡ tickedNumber t ⌝ }
 {
     match t {
