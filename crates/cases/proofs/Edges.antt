@@ -1,7 +1,6 @@
 -- The edges and the instances, computed.
 use mathlib.Core.Logic.{inl, inr}
 use mathlib.Core.Path.{refl}
-use Rattle.octets.proofs.Promises.{edge-cases}
 use Rattle.meter.specs.Meter.{emptyOf, meterFitsOf, grantedOf, countedOf, spentOf, markedOf, refilledOf, tickedOf, underThreeOf, passageOf}
 use Rattle.service.specs.Element.{wellFormedOf, seenOf, goesOutOf}
 use Rattle.service.specs.Rights.{rightsFitOf, referenceFitsOf}
@@ -17,7 +16,7 @@ use Rattle.call.specs.Disconnect.{closingFacilitiesOf, closedCallOf, passedOnOf
 use Rattle.call.specs.Facility.{facilityVerdictOf, facilityCallOf, aboutThreeOf, passesFacilityOf, facilityOf}
 use Rattle.call.specs.Tick.{tickedMetersOf, refillsOf, readyOf, runsOf, passesTickOf, tickOf}
 use Rattle.call.specs.Step.{notAnEventOf}
-use Rattle.cases.specs.Edges.{Edges, Marked}
+use Rattle.cases.specs.Edges.{Edges}
 use Rattle.cases.specs.Instances.{Instances, Reached, Broken, Example}
 
 -- all under one line that opens the definitions
@@ -27,9 +26,6 @@ computed = ((refl, (refl, (refl, (refl, (refl, (refl, (refl, (refl, (refl, tt)))
 
 pub edges : Edges
 edges = computed .0
-
-pub marked : Marked
-marked = (edge-cases, edges)
 
 pub instances : Instances
 instances = computed .1

@@ -1,4 +1,3 @@
 pub mod Edges
 pub mod MoreInstances
-pub mod Samples
 pub mod ShutOut

@@ -1,10 +1,9 @@
--- The paper's edges that are marked P: those that belong to a call, as one table, and all of them under one statement.
+-- The paper's edges that are marked P: those that belong to a call, as one table.
 use Prim.Native.Nat.{ℕ, _-_}
 use mathlib.Core.List.{List, [], _∷_, _++_}
 use mathlib.Core.Bool.{Bool, true, false}
 use mathlib.Core.Path.{_≡_}
 use lib.ListN.{replicate}
-use Rattle.octets.specs.Promises.{Edges as ReadingEdges}
 use Rattle.service.specs.declared.cause.Cause.{Cause}
 use Rattle.service.specs.declared.rights.Rights.{Rights}
 use Rattle.standing.specs.declared.Answers.{Answers}
@@ -150,7 +149,3 @@ edges =
 -- EDGES. Each case gives what its row says.
 abbrev pub Edges : Type 0
 Edges = AllHold edges
-
--- MARKED. "Cases marked P are shown of the definitions as a single table under one statement": the three on reading and the nine on calls.
-abbrev pub Marked : Type 0
-Marked = ReadingEdges × Edges

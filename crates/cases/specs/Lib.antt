@@ -2,5 +2,4 @@ pub mod Edges
 pub mod Instances
 pub mod Handed
 pub mod MoreInstances
-pub mod Samples
 pub mod ShutOut

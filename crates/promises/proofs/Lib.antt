@@ -1,4 +1,3 @@
-pub mod Apart
 pub mod Beside
 pub mod Conditions
 pub mod Credit
@@ -11,5 +10,4 @@ pub mod Numbers
 pub mod Refusals
 pub mod Required
 pub mod Seen
-pub mod Sending
 pub mod Sound

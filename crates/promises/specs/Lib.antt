@@ -4,6 +4,5 @@ pub mod MoreRights
 pub mod Notes
 pub mod Numbers
 pub mod Refusals
-pub mod Sending
 pub mod Services
 pub mod Sound

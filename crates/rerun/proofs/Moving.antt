@@ -1,39 +1,26 @@
--- A turn, as the code takes it: what was written, or had no room, says which way it went.
+-- A turn, as the code takes it: a record's line, and where there is nothing to print.
 use Prim.Native.Nat.{ℕ, _+_}
 use mathlib.Core.List.{List, []}
 use mathlib.Core.Bool.{Bool, true, false, cond}
-use mathlib.Core.Path.{_≡_, refl, ap, _∙_}
+use mathlib.Core.Path.{_≡_, refl, _∙_}
 use lib.Dec.{leb}
 use lib.ListN.{length}
-use Rattle.room.specs.declared.Bar.{Bar}
 use Rattle.room.specs.declared.Wrote.{Wrote}
-use Rattle.room.specs.Room.{placed, wroteOf, leftOf, Written}
+use Rattle.room.specs.Room.{placed, Written}
 use Rattle.text.proofs.Pieced.{no-piece}
 use Rattle.settling.specs.declared.plan.Looked.{Looked}
 use Rattle.settling.specs.declared.plan.Plan.{Plan}
-use Rattle.settling.specs.declared.plan.Put.{Put}
 use Rattle.trace.specs.declared.reading.Entry.{Entry}
 use Rattle.body.specs.Kind.{sizeOf}
 use Rattle.report.specs.declared.Columns.{Columns}
 use Rattle.report.specs.Line.{lineOf}
 use Rattle.fronts.specs.declared.Front.{Front}
 use Rattle.fronts.specs.Fronts.{columnsOf, plannedAt}
-use Rattle.rerun.specs.declared.Stand.{Stand}
-use Rattle.rerun.specs.declared.Move.{Move}
-use Rattle.rerun.specs.Move.{moveTo, halts, onceWritten, Printed, Moved}
-
-module _ (s : Stand) (put : Put) (used : ℕ) (ended more : Bool) (n : ℕ) where
-  taken : (b : Bool) → onceWritten (cond b (Wrote.To n) (Wrote.Refused Bar.Room)) put used ended more s ≡ cond b (moveTo put used n ended more) (halts s)
-  taken true = refl
-  taken false = refl
-
-pub prints : {s : Stand} {put : Put} {used : ℕ} {ended more : Bool} {text l l' : List ℕ} {w : Wrote} {r : Move} → Written true (s .wrote) text l l' w → r ≡ onceWritten w put used ended more s → Printed text (moveTo put used (s .wrote + length text) ended more) s l l' r
-unfolding wroteOf leftOf
-prints {s} {put} {used} {ended} {more} {text} {l} v e =
-    record {
-      turn = e ∙ ap (λ (x : Wrote). onceWritten x put used ended more s) (v .answer) ∙ taken s put used ended more (s .wrote + length text) (leb (s .wrote + length text) (length l));
-      buffer = v .buffer;
-    }
+use Rattle.turns.specs.declared.Stand.{Stand}
+use Rattle.turns.specs.declared.Move.{Move}
+use Rattle.turns.specs.Turns.{halts, onceWritten, Printed}
+use Rattle.turns.proofs.Printing.{prints}
+use Rattle.rerun.specs.Move.{Moved}
 
 -- a record's line
 pub line-prints : (explained : Bool) (e : Entry) (k : Looked) (t : List ℕ) {p : Plan} {cs : Columns} {n : ℕ} {s : Stand} {l l' : List ℕ} {w : Wrote} {r : Move} → p ≡ plannedAt k e t → cs ≡ columnsOf e (p .outcome) → n ≡ sizeOf (e .kind) → Written true (s .wrote) (lineOf explained cs) l l' w → r ≡ onceWritten w (p .put) (s .used + n) false true s → Moved explained (Front.Whole e) k t s l l' r

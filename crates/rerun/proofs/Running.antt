@@ -23,8 +23,8 @@ use Rattle.body.proofs.Sizes.{least}
 use Rattle.report.specs.Line.{lineOf}
 use Rattle.notices.specs.Notices.{faultLine}
 use Rattle.fronts.specs.declared.Front.{Front}
-use Rattle.rerun.specs.declared.Stand.{Stand}
-use Rattle.rerun.specs.declared.Move.{Move}
+use Rattle.turns.specs.declared.Stand.{Stand}
+use Rattle.turns.specs.declared.Move.{Move}
 use Rattle.settling.specs.declared.settle.Outcome.{Outcome}
 use Rattle.settling.specs.declared.plan.Looked.{Looked}
 use Rattle.exchange.specs.Halves.{lookOf, committed}
@@ -33,7 +33,8 @@ use Rattle.exchange.proofs.Promises.{one-place}
 use Rattle.fronts.specs.Fronts.{heardOf, frontOf, columnsOf}
 use Rattle.rerun.specs.Run.{turnedAt, lineAt, Ran, rests, ends, goes, runIn, runOf, soFar, WorkedOff}
 use Rattle.fronts.specs.Fronts.{referenceIn, eventIn, plannedAt}
-use Rattle.rerun.specs.Move.{sizeIn, textIn, beginning, halts, moveIn, Moved}
+use Rattle.turns.specs.Turns.{halts}
+use Rattle.rerun.specs.Move.{sizeIn, textIn, beginning, moveIn, Moved}
 
 -- nothing stands at the front of no octets
 pub front-empty : (last : Bool) (c : List ℕ) (i : ℕ) → length c ≤ i → frontOf last (drop i c) ≡ Front.Waits

@@ -4,11 +4,10 @@ ghost use mathlib.Core.Bool.{false};
 ghost use Prim.Native.Nat.{_+_, _≤_};
 ghost use lib.ListN.{length, drop};
 ghost use Rattle.body.specs.Kind.{sizeOf};
-ghost use Rattle.notices.specs.Notices.{faultLine};
 ghost use Rattle.fronts.specs.declared.Front.{Front};
 ghost use Rattle.fronts.specs.Fronts.{frontOf};
 ghost use Rattle.rerun.specs.Run.{soFar, WorkedOff};
-ghost use Rattle.rerun.specs.Move.{sizeIn, moveTo, beginning, onceWritten, faultMove, Printed, Moved};
+ghost use Rattle.rerun.specs.Move.{sizeIn, beginning, Moved};
 use body::kind::size;
 use call::Call;
 use exchange::step::commit;
@@ -19,13 +18,15 @@ use fronts::event_in;
 use fronts::front_of;
 use fronts::planned;
 use fronts::reference_in;
-use notices::write_fault;
 use report::write_line;
-use room::Wrote;
 use settling::plan::Looked;
 use settling::plan::Put;
 use trace::reading::Entry;
-use trace::reading::Fault;
+use turns::Move;
+use turns::Stand;
+use turns::fault_turn;
+use turns::moves;
+use turns::once_written;
 
 // used: how many octets of the piece; wrote: how many octets of text; ended: whether a fault ended the run.
 pub struct Worked {
@@ -33,20 +34,6 @@ pub struct Worked {
     pub used: usize,
     pub wrote: usize,
     pub ended: bool,
-}
-
-// Where a run stands: used, wrote and ended as above; more: whether it goes on.
-pub struct Stand {
-    pub used: usize,
-    pub wrote: usize,
-    pub ended: bool,
-    pub more: bool,
-}
-
-// One turn of a run: what is put into the table, and where the run then stands.
-struct Move {
-    put: Put,
-    stand: Stand,
 }
 
 // The front of what is left of the piece.
@@ -59,42 +46,6 @@ fn front_at(last: bool, piece: &[u8], s: Stand) -> Front
     } else {
         Front::Waits
     }
-}
-
-fn moves(put: Put, used: usize, wrote: usize, ended: bool, more: bool) -> Move
-    ensures { λ r. ⌜ r ≡ moveTo put used wrote ended more ⌝ }
-{
-    Move {
-        put: put,
-        stand: Stand {
-            used: used,
-            wrote: wrote,
-            ended: ended,
-            more: more,
-        },
-    }
-}
-
-// A text that was written has its turn; one that had no room stops the run where it stands.
-fn once_written(w: Wrote, put: Put, used: usize, ended: bool, more: bool, s: Stand) -> Move
-    ensures { λ r. ⌜ r ≡ onceWritten w put used ended more s ⌝ }
-{
-    let i = s.used;
-    let k = s.wrote;
-    match w {
-        Wrote::Refused(_) => moves(Put::Nothing, i, k, false, false),
-        Wrote::To(end) => moves(put, used, end, ended, more),
-    }
-}
-
-// A fault prints its line and ends the run.
-fn fault_turn(x: Fault, out: &mut [u8], s: Stand) -> Move
-    ensures { λ r. ⌜ Printed (faultLine x) (faultMove (length (faultLine x)) s) s (now (out .entry)) (now (out .exit)) r ⌝ }
-{
-    let i = s.used;
-    let k = s.wrote;
-    let w = write_fault(out, k, x);
-    once_written(w, Put::Nothing, i, true, false, s)
 }
 
 // A whole record prints its line, and only then has something put into the table.

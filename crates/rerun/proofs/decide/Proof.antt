@@ -5,8 +5,8 @@ use Rattle.rerun.proofs.decide.Statement.{statement}
 use Rattle.rerun.proofs.decide.Tie as tie
 use Rattle.rerun.proofs.decide.Reads as reads
 use Rattle.rerun.proofs.decide.Lts as lts
-use Rattle.rerun.proofs.fault_turn.Reads as fault-turn-reads
-use Rattle.rerun.proofs.moves.Reads as moves-reads
+use Rattle.turns.proofs.fault_turn.Reads as fault-turn-reads
+use Rattle.turns.proofs.moves.Reads as moves-reads
 use Rattle.rerun.proofs.record_turn.Reads as record-turn-reads
 
 enum-told : tie.Need-enum-told

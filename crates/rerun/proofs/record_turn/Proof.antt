@@ -9,7 +9,7 @@ use Rattle.body.proofs.kind.size.Reads as size-reads
 use Rattle.fronts.proofs.columns_of.Reads as columns-of-reads
 use Rattle.fronts.proofs.planned.Reads as planned-reads
 use Rattle.report.proofs.write_line.Reads as write-line-reads
-use Rattle.rerun.proofs.once_written.Reads as once-written-reads
+use Rattle.turns.proofs.once_written.Reads as once-written-reads
 
 size-requires : tie.Need-size-requires
 size-requires c κs = search needs

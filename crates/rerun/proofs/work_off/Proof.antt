@@ -49,11 +49,11 @@ use Rattle.exchange.proofs.Again.{LentAgain, lends-again, comes-back}
 use Rattle.exchange.proofs.Lends.{Cell, lends-array, array-back}
 use Rattle.table.proofs.Ends.{full, forgets, frees-all}
 use Rattle.meter.proofs.Plainly.{pre-plain, calls-lasts, calls-plain, leaves}
-use Rattle.rerun.specs.declared.Stand.{Stand}
+use Rattle.turns.specs.declared.Stand.{Stand}
 use Rattle.rerun.specs.declared.Worked.{Worked}
 use Rattle.rerun.specs.Run.{soFar, WorkedOff}
-use Rattle.rerun.proofs.Stand as S
-use Rattle.rerun.proofs.Stand.Laws as S′
+use Rattle.turns.proofs.Stand as S
+use Rattle.turns.proofs.Stand.Laws as S′
 use Rattle.rerun.proofs.Worked as R
 use Rattle.rerun.proofs.Worked.Laws as R′
 use Rattle.rerun.proofs.work_off_at as g

@@ -60,8 +60,8 @@ use Rattle.settling.proofs.plan.Put.Laws as Q′
 use Rattle.table.proofs.Ends.{full, forgets, frees-all}
 use Rattle.meter.proofs.Plainly.{pre-plain, calls-lasts, calls-told, calls-plain, leaves}
 use Rattle.fronts.specs.declared.Front.{Front}
-use Rattle.rerun.specs.declared.Move.{Move}
-use Rattle.rerun.specs.declared.Stand.{Stand}
+use Rattle.turns.specs.declared.Move.{Move}
+use Rattle.turns.specs.declared.Stand.{Stand}
 use Rattle.fronts.specs.Fronts.{referenceIn, eventIn}
 use Rattle.rerun.specs.Move.{sizeIn, beginning, Moved}
 use Rattle.fronts.specs.Fronts.{frontOf}
@@ -70,10 +70,10 @@ use Rattle.rerun.proofs.Lent.{shares, lends, shared-back, lent-back}
 use Rattle.rerun.proofs.Running.{Kept, leftOf, starts, front-fits, turns-on}
 use Rattle.fronts.proofs.Front as F
 use Rattle.fronts.proofs.Front.Laws as F′
-use Rattle.rerun.proofs.Move as O
-use Rattle.rerun.proofs.Move.Laws as O′
-use Rattle.rerun.proofs.Stand as S
-use Rattle.rerun.proofs.Stand.Laws as S′
+use Rattle.turns.proofs.Move as O
+use Rattle.turns.proofs.Move.Laws as O′
+use Rattle.turns.proofs.Stand as S
+use Rattle.turns.proofs.Stand.Laws as S′
 use Rattle.rerun.proofs.at_start as hd
 use Rattle.rerun.proofs.at_start.Symbol as hd-def
 use Rattle.rerun.proofs.at_start.Symbol.{name as #hd}

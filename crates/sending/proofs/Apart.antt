@@ -25,8 +25,8 @@ use Rattle.standing.specs.declared.Said.{Said}
 use Rattle.rules.specs.declared.message.Kind.{Kind}
 use Rattle.rules.specs.declared.message.Level.{Level}
 use Rattle.rules.specs.declared.message.Message.{Message}
-use Rattle.promises.specs.Sending.{kindFor, singleFor, causeFor, componentFor, Host, facilitiesFor, wireOf, Different, Alike, Apart}
-use Rattle.promises.proofs.Sending.{moreIn, Fits, sent-fits, laid-out}
+use Rattle.sending.specs.Sending.{kindFor, singleFor, causeFor, componentFor, Host, facilitiesFor, wireOf, Different, Alike, Apart}
+use Rattle.sending.proofs.Sending.{moreIn, Fits, sent-fits, laid-out}
 
 abbrev kindFrom : LineKind → Kind
 kindFrom LineKind.Alerting = Kind.Alerting

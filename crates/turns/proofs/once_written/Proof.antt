@@ -1,9 +1,9 @@
 use borrow.Author.Needs.{needs}
-use Rattle.rerun.proofs.once_written.Statement.{statement}
-use Rattle.rerun.proofs.once_written.Tie as tie
-use Rattle.rerun.proofs.once_written.Reads as reads
-use Rattle.rerun.proofs.once_written.Lts as lts
-use Rattle.rerun.proofs.moves.Reads as moves-reads
+use Rattle.turns.proofs.once_written.Statement.{statement}
+use Rattle.turns.proofs.once_written.Tie as tie
+use Rattle.turns.proofs.once_written.Reads as reads
+use Rattle.turns.proofs.once_written.Lts as lts
+use Rattle.turns.proofs.moves.Reads as moves-reads
 
 enum-told : tie.Need-enum-told
 enum-told c = search needs

@@ -1,11 +1,11 @@
-use Rattle.rerun.proofs.Moving.{prints}
+use Rattle.turns.proofs.Printing.{prints}
 use borrow.Author.Needs.{needs}
-use Rattle.rerun.proofs.fault_turn.Statement.{statement}
-use Rattle.rerun.proofs.fault_turn.Tie as tie
-use Rattle.rerun.proofs.fault_turn.Reads as reads
-use Rattle.rerun.proofs.fault_turn.Lts as lts
+use Rattle.turns.proofs.fault_turn.Statement.{statement}
+use Rattle.turns.proofs.fault_turn.Tie as tie
+use Rattle.turns.proofs.fault_turn.Reads as reads
+use Rattle.turns.proofs.fault_turn.Lts as lts
 use Rattle.notices.proofs.write_fault.Reads as write-fault-reads
-use Rattle.rerun.proofs.once_written.Reads as once-written-reads
+use Rattle.turns.proofs.once_written.Reads as once-written-reads
 
 write-fault-requires : tie.Need-write-fault-requires
 write-fault-requires c κs = search needs

@@ -15,10 +15,10 @@ use Rattle.call.specs.declared.Event.{Event}
 use Rattle.call.specs.Sound.{freshCall}
 use Rattle.call.specs.Step.{stepOf}
 use Rattle.promises.specs.Sound.{Offered, runOf}
 use Rattle.cases.specs.Edges.{elementOf, setup, silent, says}
 use Rattle.cases.specs.Instances.{bare, served}
 use Rattle.promises.specs.Refusals.{sentTo}
-use Rattle.promises.specs.Sending.{Host, answerTo, leftIn}
+use Rattle.sending.specs.Sending.{Host, answerTo, leftIn}
 
 -- a run from a fresh record, the event that follows it, a side, and what is written for the message to that side: octets, then its element
 pub record Sample : Type 0 where

@@ -2,8 +2,8 @@ use Prim.Native.Nat.{_≤_, _-_}
 use mathlib.Core.Path.{_≡_}
 use borrow.Author.Needs.{needs}
 use lib.ListN.{length}
-use Rattle.annex_b.proofs.show.spell.Statement.{statement}
-use Rattle.annex_b.proofs.show.spell.Tie as tie
+use Rattle.annex_case.proofs.spell.Statement.{statement}
+use Rattle.annex_case.proofs.spell.Tie as tie
 
 abbrev Inv-loop : tie.InvT-loop
 Inv-loop out₀ octets at₀ i₀ out at i = (i ≤ length octets) × (length out ≡ length out₀)

@@ -1,4 +1,6 @@
 // The components of 7.1 and Annex B, and damaged ones.
+mod show;
+
 use crate::show::reads_body;
 use crate::show::writes;
 use component::facility::Component;

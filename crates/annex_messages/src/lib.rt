@@ -1,4 +1,6 @@
 // Whole messages with the components in them, both ways, and the reader's and writer's edges.
+mod show;
+
 use crate::show::both;
 use crate::show::reads;
 use crate::show::writes_message;

@@ -59,16 +59,16 @@ use Rattle.call.specs.Sound.{soundOf}
 use Rattle.call.specs.Step.{notAnEventOf, stepOf}
 use Rattle.call.specs.Tick.{readyOf, passesTickOf, tickOf}
 use Rattle.ranges.specs.Ranges.{Live}
 use Rattle.promises.specs.Numbers.{WellFormed}
 use Rattle.promises.specs.Notes.{limitFor}
 use Rattle.promises.specs.Refusals.{sentTo}
 use Rattle.promises.specs.Handling.{handedIn, handedTo}
-use Rattle.promises.specs.Sending.{kindFor, singleFor, causeFor, componentFor, Host, HostInRange, facilitiesFor, wireOf, Sending}
+use Rattle.sending.specs.Sending.{kindFor, singleFor, causeFor, componentFor, Host, HostInRange, facilitiesFor, wireOf, Sending}
 use Rattle.ranges.proofs.Decide.{by-cond, both, le}
 use Rattle.promises.proofs.Heard.{Heard, through, barred, heard}
 use Rattle.ranges.proofs.Phases.{requested, connectable, talking, active, up, live}
 use Rattle.ranges.proofs.Ranges.{reference-range, rights-range, in-range}
 use Rattle.promises.proofs.Handling.{unaltered}
 
 -- components with invoke numbers in range
 abbrev Numbered : List Component → Type 0

@@ -1,0 +1,4 @@
+pub mod Apart
+pub mod Marked
+pub mod Samples
+pub mod Sending
