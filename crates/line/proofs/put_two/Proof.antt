@@ -1,4 +1,4 @@
-use Rattle.line.proofs.Joined.{two-octets}
+use Rattle.text.proofs.Pieced.{two-octets}
 use native.Mathlib.Omega.{arith}
 use lib.ListN.{length-set}
 use borrow.Author.Needs.{needs}

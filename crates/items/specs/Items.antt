@@ -13,6 +13,10 @@ use Rattle.text.specs.Decimal.{decimalOf}
 abbrev pub dash : List ℕ
 dash = 45 ∷ []
 
+-- a column, after the space that parts it from the one before
+abbrev pub column : List ℕ → List ℕ
+column c = 32 ∷ c
+
 -- `cause.N`
 abbrev pub causeItem : Cause → List (List ℕ)
 causeItem Cause.Absent = []

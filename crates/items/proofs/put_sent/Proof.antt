@@ -1,12 +1,12 @@
 use native.Mathlib.Omega.{arith}
 use Rattle.text.proofs.Pieced.{spelled}
 use borrow.Author.Needs.{needs}
-use Rattle.report.proofs.put_sent.Statement.{statement}
-use Rattle.report.proofs.put_sent.Tie as tie
-use Rattle.report.proofs.put_sent.Reads as reads
-use Rattle.report.proofs.put_sent.Lts as lts
-use Rattle.report.proofs.put.Reads as put-reads
-use Rattle.report.proofs.put_message.Reads as put-message-reads
+use Rattle.items.proofs.put_sent.Statement.{statement}
+use Rattle.items.proofs.put_sent.Tie as tie
+use Rattle.items.proofs.put_sent.Reads as reads
+use Rattle.items.proofs.put_sent.Lts as lts
+use Rattle.items.proofs.put.Reads as put-reads
+use Rattle.items.proofs.put_message.Reads as put-message-reads
 
 enum-told : tie.Need-enum-told
 enum-told c = search needs
