@@ -1,19 +1,17 @@
 -- Pieces that were put one after another, as the columns spell them.
-use Prim.Native.Nat.{ℕ, _+_, _≤_, _<_}
-use mathlib.Core.List.{List, [], _∷_, _++_, append-assoc}
+use Prim.Native.Nat.{ℕ, _+_, _≤_}
+use mathlib.Core.List.{List, [], _∷_, _++_}
 use mathlib.Core.Bool.{true}
-use mathlib.Core.Path.{_≡_, refl}
-use native.Mathlib.Numerals.{add-one}
+use mathlib.Core.Path.{_≡_}
 use native.Mathlib.Omega.{arith}
-use lib.ListN.{length, set, length-set}
-use lib.Seq.{set-split}
+use lib.ListN.{length, set}
 use Rattle.room.specs.declared.Wrote.{Wrote}
 use Rattle.room.specs.Putting.{endOf}
-use Rattle.room.specs.Room.{placed, Written}
+use Rattle.room.specs.Room.{Written}
 use Rattle.text.specs.Decimal.{decimalOf}
 use Rattle.text.specs.Pieces.{Piece}
 use Rattle.text.proofs.Pieced.{settled, spelled, two, piece-length, octet}
-use Rattle.line.specs.Columns.{column}
+use Rattle.facilities.specs.Column.{column}
 use Rattle.line.proofs.Words.{taken-text}
 
 -- the columns of a message but for its element

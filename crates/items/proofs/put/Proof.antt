@@ -3,10 +3,6 @@ use Rattle.text.proofs.Pieced.{settled}
 use borrow.Author.Needs.{needs}
 use Rattle.items.proofs.put.Statement.{statement}
 use Rattle.items.proofs.put.Tie as tie
-use Rattle.items.proofs.put.Reads as reads
-use Rattle.items.proofs.put.Lts as lts
-use Rattle.room.proofs.end_of.Reads as end-of-reads
-use Rattle.room.proofs.write_octets.Reads as write-octets-reads
 
 write-octets-requires : tie.Need-write-octets-requires
 write-octets-requires c κs = search needs

@@ -3,13 +3,6 @@ use Rattle.items.proofs.Joining.{seven}
 use borrow.Author.Needs.{needs}
 use Rattle.items.proofs.put_items.Statement.{statement}
 use Rattle.items.proofs.put_items.Tie as tie
-use Rattle.items.proofs.put_items.Reads as reads
-use Rattle.items.proofs.put_items.Lts as lts
-use Rattle.items.proofs.put_cause.Reads as put-cause-reads
-use Rattle.items.proofs.put_element.Reads as put-element-reads
-use Rattle.items.proofs.put_level.Reads as put-level-reads
-use Rattle.items.proofs.put_more.Reads as put-more-reads
-use Rattle.items.proofs.put_said.Reads as put-said-reads
 
 put-cause-requires : tie.Need-put-cause-requires
 put-cause-requires c κs = search needs

@@ -1,8 +1,8 @@
 use native.Mathlib.Omega.{arith}
 use Rattle.text.proofs.Pieced.{spelled}
 use borrow.Author.Needs.{needs}
-use Rattle.line.proofs.put_component.Statement.{statement}
-use Rattle.line.proofs.put_component.Tie as tie
+use Rattle.facilities.proofs.put_component.Statement.{statement}
+use Rattle.facilities.proofs.put_component.Tie as tie
 
 enum-known-c : tie.Need-enum-known-c
 enum-known-c c = search needs
@@ -74,29 +74,4 @@ returns-4 : tie.Need-returns-4
 returns-4 c = spelled (simp (c .before .before .before .before .before .enum-told2 .given .1, c .before .before .before .before .before .before .before .before .c3 .given .1)) (omega arith) (c .before .before .put-invoke4 .ensures)
 
 pub put-component-spec : {M : Type 1} → statement M
-put-component-spec =
-    tie.close
-    (tie.spec
-    enum-known-c
-    service-digit-requires
-    wish-letter-requires
-    slice-aggregate-put-invoke
-    put-invoke-requires
-    enum-known-c-2
-    slice-aggregate-put-invoke-2
-    put-invoke-requires-2
-    enum-known-c-3
-    enum-told
-    slice-aggregate-put-invoke-3
-    put-invoke-requires-3
-    enum-told-2
-    slice-aggregate-put-invoke-4
-    put-invoke-requires-4
-    same-length
-    returns
-    same-length-2
-    returns-2
-    same-length-3
-    returns-3
-    same-length-4
-    returns-4)
+put-component-spec = tie.close (tie.spec enum-known-c service-digit-requires wish-letter-requires slice-aggregate-put-invoke put-invoke-requires enum-known-c-2 slice-aggregate-put-invoke-2 put-invoke-requires-2 enum-known-c-3 enum-told slice-aggregate-put-invoke-3 put-invoke-requires-3 enum-told-2 slice-aggregate-put-invoke-4 put-invoke-requires-4 same-length returns same-length-2 returns-2 same-length-3 returns-3 same-length-4 returns-4)
