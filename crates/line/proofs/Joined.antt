@@ -1,34 +1,18 @@
 -- Pieces that were put one after another, as the columns spell them.
-use Prim.Native.Nat.{ℕ, _+_, _≤_, _<_}
-use mathlib.Core.List.{List, [], _∷_, _++_, append-assoc}
+use Prim.Native.Nat.{ℕ, _+_, _≤_}
+use mathlib.Core.List.{List, [], _∷_, _++_}
 use mathlib.Core.Bool.{true}
-use mathlib.Core.Path.{_≡_, refl}
-use native.Mathlib.Numerals.{add-one}
+use mathlib.Core.Path.{_≡_}
 use native.Mathlib.Omega.{arith}
-use lib.ListN.{length, set, length-set}
-use lib.Seq.{set-split}
+use lib.ListN.{length, set}
 use Rattle.room.specs.declared.Wrote.{Wrote}
 use Rattle.room.specs.Putting.{endOf}
-use Rattle.room.specs.Room.{placed, Written}
+use Rattle.room.specs.Room.{Written}
 use Rattle.text.specs.Decimal.{decimalOf}
 use Rattle.text.specs.Pieces.{Piece}
-use Rattle.text.proofs.Pieced.{settled, spelled, two, piece-length}
-use Rattle.line.specs.Columns.{column}
+use Rattle.text.proofs.Pieced.{settled, spelled, two, piece-length, octet}
+use Rattle.facilities.specs.Column.{column}
 use Rattle.line.proofs.Words.{taken-text}
-
--- an octet
-pub octet : {at x : ℕ} {l : List ℕ} → at < length l → Piece 1 at (x ∷ []) l (set l at x) (at + 1)
-unfolding placed
-octet {at} {x} {l} h = record { end = refl; octets = rw (append-assoc, add-one) (set-split l at x h); small = omega arith }
-
-pub two-octets : {at x y : ℕ} {l : List ℕ} → at + 2 ≤ length l → Piece 2 at (x ∷ y ∷ []) l (set (set l at x) (at + 1) y) (at + 2)
-two-octets {at} {x} {y} {l} h =
-    let p = two {m = 1} {k = 1} {at = at} {l = l} h (octet {x = x} (omega arith)) (octet {x = y} (simp length-set (omega arith))) in
-    record { end = refl; octets = p .octets; small = p .small }
-
--- an octet, and what was written after it
-pub marked : {m at r x : ℕ} {p l l' : List ℕ} {w : Wrote} → at + (1 + m) ≤ length l → length p ≤ m → Written true (at + 1) p (set l at x) l' w → r ≡ endOf w → Piece (1 + m) at (x ∷ p) l l' r
-marked {l = l} h k v e = two h (octet (omega arith)) (settled (simp length-set (omega arith)) k v e)
 
 -- the columns of a message but for its element
 pub four-columns : {at i₁ i₂ i₃ r : ℕ} {h c s f l l₁ l₂ l₃ l' : List ℕ} → at + 137 ≤ length l → Piece 26 at h l l₁ i₁ → Piece 21 i₁ c l₁ l₂ i₂ → Piece 3 i₂ s l₂ l₃ i₃ → Piece 87 i₃ f l₃ l' r → Piece 137 at (h ++ c ++ s ++ f) l l' r

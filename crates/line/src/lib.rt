@@ -1,26 +1,22 @@
 // What is printed of one message: a line of columns.
 ghost use mathlib.Core.Path.{_≡_};
 ghost use mathlib.Core.Bool.{true};
-ghost use mathlib.Core.List.{[], _∷_, _++_};
+ghost use mathlib.Core.List.{_∷_, _++_};
 ghost use Prim.Native.Nat.{_+_, _≤_};
 ghost use lib.ListN.{length};
 ghost use Rattle.room.specs.Room.{Written};
-ghost use Rattle.component.specs.Facility.{serviceOctet};
 ghost use Rattle.elements.specs.Numbers.{faultNumber};
 ghost use Rattle.text.specs.Decimal.{decimalOf};
 ghost use Rattle.text.specs.Hex.{hexOf};
 ghost use Rattle.text.specs.Pieces.{Piece};
-ghost use Rattle.line.specs.Columns.{column, flagDigit, headColumns, causeColumn, singleColumn, wishLetter, componentText, facilityColumn, elementColumn, takenColumns, columnsOf};
+ghost use Rattle.facilities.specs.Column.{column, facilityColumn};
+ghost use Rattle.line.specs.Columns.{flagDigit, headColumns, causeColumn, singleColumn, elementColumn, takenColumns, columnsOf};
 ghost use Rattle.line.specs.Line.{lineOf};
 use cause::Cause;
-use component::facility::Component;
-use component::facility::Refusal;
-use component::facility::Service;
-use component::facility::Wish;
 use elements::Fault;
 use elements::Read;
 use elements::Reading;
-use fields::Facilities;
+use facilities::write_facilities;
 use fields::Header;
 use fields::Message;
 use fields::Place;
@@ -32,22 +28,6 @@ use room::end_of;
 use room::write_octets;
 use text::decimal::write_decimal;
 use text::hex::write_hex;
-
-fn put(buf: &mut [u8], at: usize, piece: &[u8]) -> usize
-    requires { ⌜ at + length (now piece) ≤ length (now buf) ⌝ }
-    ensures { λ r. ⌜ Piece (length (now (piece .entry))) at (now (piece .entry)) (now (buf .entry)) (now (buf .exit)) r ⌝ }
-{
-    end_of(write_octets(buf, at, piece))
-}
-
-fn put_two(buf: &mut [u8], at: usize, x: u8, y: u8) -> usize
-    requires { ⌜ at + 2 ≤ length (now buf) ⌝ }
-    ensures { λ r. ⌜ Piece 2 at (x ∷ y ∷ []) (now (buf .entry)) (now (buf .exit)) r ⌝ }
-{
-    buf[at] = x;
-    buf[at + 1] = y;
-    at + 2
-}
 
 // A number, after the mark that parts it from what stands before it.
 fn put_number(buf: &mut [u8], at: usize, mark: u8, n: u64) -> usize
@@ -80,8 +60,9 @@ fn put_head(buf: &mut [u8], at: usize, h: Header) -> usize
 {
     let kind = h.kind;
     let a = put_hex(buf, at, kind_octet(kind));
-    let b = put_two(buf, a, b' ', flag_digit(h.flag));
-    put_number(buf, b, b' ', h.reference as u64)
+    buf[a] = b' ';
+    buf[a + 1] = flag_digit(h.flag);
+    put_number(buf, a + 2, b' ', h.reference as u64)
 }
 
 fn put_cause(buf: &mut [u8], at: usize, c: Cause) -> usize
@@ -89,7 +70,11 @@ fn put_cause(buf: &mut [u8], at: usize, c: Cause) -> usize
     ensures { λ r. ⌜ Piece 21 at (column (causeColumn c)) (now (buf .entry)) (now (buf .exit)) r ⌝ }
 {
     match c {
-        Cause::Absent => put_two(buf, at, b' ', b'-'),
+        Cause::Absent => {
+            buf[at] = b' ';
+            buf[at + 1] = b'-';
+            at + 2
+        }
         Cause::Value(v) => put_number(buf, at, b' ', v as u64),
     }
 }
@@ -99,79 +84,14 @@ fn put_single(buf: &mut [u8], at: usize, s: Single) -> usize
     ensures { λ r. ⌜ Piece 3 at (column (singleColumn s)) (now (buf .entry)) (now (buf .exit)) r ⌝ }
 {
     match s {
-        Single::Absent => put_two(buf, at, b' ', b'-'),
+        Single::Absent => {
+            buf[at] = b' ';
+            buf[at + 1] = b'-';
+            at + 2
+        }
         Single::MoreData => put_hex(buf, at, 0xA0),
         Single::Ready => put_hex(buf, at, 0xB0),
         Single::NotReady => put_hex(buf, at, 0xBF),
-    }
-}
-
-fn service_digit(s: Service) -> u8
-    ensures { λ r. ⌜ r ≡ 48 + serviceOctet s ⌝ }
-{
-    match s {
-        Service::One => b'1',
-        Service::Two => b'2',
-        Service::Three => b'3',
-    }
-}
-
-fn wish_letter(w: Wish) -> u8
-    ensures { λ r. ⌜ r ≡ wishLetter w ⌝ }
-{
-    match w {
-        Wish::Preferred => b'p',
-        Wish::Required => b'r',
-    }
-}
-
-// An invoke number, and what is said of it.
-fn put_invoke(buf: &mut [u8], at: usize, mark: u8, id: u8, said: &[u8]) -> usize
-    requires { ⌜ at + (21 + length (now said)) ≤ length (now buf) ⌝ }
-    ensures { λ r. ⌜ Piece (21 + length (now (said .entry))) at (mark ∷ (decimalOf id ++ now (said .entry))) (now (buf .entry)) (now (buf .exit)) r ⌝ }
-{
-    let a = put_number(buf, at, mark, id as u64);
-    put(buf, a, said)
-}
-
-fn put_component(buf: &mut [u8], at: usize, mark: u8, c: Component) -> usize
-    requires { ⌜ at + 29 ≤ length (now buf) ⌝ }
-    ensures { λ r. ⌜ Piece 29 at (mark ∷ componentText c) (now (buf .entry)) (now (buf .exit)) r ⌝ }
-{
-    match c {
-        Component::Invoke(id, s, w) => {
-            let said = [b'.', service_digit(s), b'.', wish_letter(w)];
-            put_invoke(buf, at, mark, id, &said)
-        }
-        Component::Accepted(id) => put_invoke(buf, at, mark, id, b".ok"),
-        Component::Rejected(id, e) => match e {
-            Refusal::ByUser => put_invoke(buf, at, mark, id, b".user"),
-            Refusal::ByNetwork => put_invoke(buf, at, mark, id, b".network"),
-        },
-    }
-}
-
-// The first two components of a column.
-fn put_both(buf: &mut [u8], at: usize, a: Component, b: Component) -> usize
-    requires { ⌜ at + 58 ≤ length (now buf) ⌝ }
-    ensures { λ r. ⌜ Piece 58 at (column (componentText a ++ (44 ∷ componentText b))) (now (buf .entry)) (now (buf .exit)) r ⌝ }
-{
-    let i = put_component(buf, at, b' ', a);
-    put_component(buf, i, b',', b)
-}
-
-fn put_facility(buf: &mut [u8], at: usize, f: Facilities) -> usize
-    requires { ⌜ at + 87 ≤ length (now buf) ⌝ }
-    ensures { λ r. ⌜ Piece 87 at (column (facilityColumn f)) (now (buf .entry)) (now (buf .exit)) r ⌝ }
-{
-    match f {
-        Facilities::Zero => put_two(buf, at, b' ', b'-'),
-        Facilities::One(a) => put_component(buf, at, b' ', a),
-        Facilities::Two(a, b) => put_both(buf, at, a, b),
-        Facilities::Three(a, b, c) => {
-            let i = put_both(buf, at, a, b);
-            put_component(buf, i, b',', c)
-        }
     }
 }
 
@@ -180,7 +100,11 @@ fn put_element(buf: &mut [u8], at: usize, p: Place) -> usize
     ensures { λ r. ⌜ Piece 42 at (column (elementColumn p)) (now (buf .entry)) (now (buf .exit)) r ⌝ }
 {
     match p {
-        Place::Absent => put_two(buf, at, b' ', b'-'),
+        Place::Absent => {
+            buf[at] = b' ';
+            buf[at + 1] = b'-';
+            at + 2
+        }
         Place::At(i, n) => {
             let a = put_number(buf, at, b' ', i as u64);
             put_number(buf, a, b'+', n as u64)
@@ -199,7 +123,7 @@ fn put_message(buf: &mut [u8], at: usize, m: Message) -> usize
     let a = put_head(buf, at, header);
     let b = put_cause(buf, a, cause);
     let c = put_single(buf, b, single);
-    put_facility(buf, c, facility)
+    end_of(write_facilities(buf, c, facility))
 }
 
 // The columns of a message that was taken.
@@ -209,9 +133,10 @@ fn put_taken(buf: &mut [u8], at: usize, r: Reading) -> usize
 {
     let message = r.message;
     let user = r.user;
-    let a = put_two(buf, at, b' ', b'0');
-    let b = put_message(buf, a, message);
-    put_element(buf, b, user)
+    buf[at] = b' ';
+    buf[at + 1] = b'0';
+    let a = put_message(buf, at + 2, message);
+    put_element(buf, a, user)
 }
 
 fn fault_digit(f: Fault) -> u8
@@ -230,8 +155,9 @@ fn put_refused(buf: &mut [u8], at: usize, f: Fault) -> usize
     requires { ⌜ at + 16 ≤ length (now buf) ⌝ }
     ensures { λ r. ⌜ Piece 16 at (columnsOf (Read.Refused f)) (now (buf .entry)) (now (buf .exit)) r ⌝ }
 {
-    let a = put_two(buf, at, b' ', fault_digit(f));
-    put(buf, a, b" - - - - - - -")
+    buf[at] = b' ';
+    buf[at + 1] = fault_digit(f);
+    end_of(write_octets(buf, at + 2, b" - - - - - - -"))
 }
 
 // The columns after the first.

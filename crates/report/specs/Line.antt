@@ -8,12 +8,8 @@ use Rattle.rules.specs.Message.{kindNumberOf}
 use Rattle.body.specs.Kind.{kindOctet}
 use Rattle.text.specs.Decimal.{decimalOf}
 use Rattle.text.specs.Hex.{hexOf}
+use Rattle.items.specs.Items.{dash, column, messageColumn}
 use Rattle.report.specs.declared.Columns.{Columns}
-use Rattle.report.specs.Items.{dash, messageColumn}
-
--- a column, after the space that parts it from the one before
-abbrev pub column : List ℕ → List ℕ
-column c = 32 ∷ c
 
 -- "the last two columns the type sent in hexadecimal or `-`"
 abbrev pub typeColumn : Sent → List ℕ

@@ -1,13 +1,14 @@
 -- A piece after a piece.
 use Prim.Native.Nat.{ℕ, _+_, _-_, _<_, _≤_}
-use mathlib.Core.List.{List, [], _++_}
+use mathlib.Core.List.{List, [], _∷_, _++_, append-assoc}
 use mathlib.Core.Bool.{Bool, true, false, cond}
 use mathlib.Core.Path.{_≡_, refl, ap, _∙_}
+use native.Mathlib.Numerals.{add-one}
 use native.Mathlib.Omega.{arith}
 use borrow.Author.Tests.{le-leb, leb-true, leb-false}
 use lib.Dec.{leb}
-use lib.ListN.{length, take, drop, length-append}
-use lib.Seq.{paste-zero, take-append-seam}
+use lib.ListN.{length, take, drop, set, length-append, length-set}
+use lib.Seq.{paste-zero, take-append-seam, set-split}
 use Rattle.room.specs.declared.Bar.{Bar}
 use Rattle.room.specs.declared.Wrote.{Wrote}
 use Rattle.room.specs.Room.{placed, wroteOf, leftOf, Written}
@@ -37,6 +38,20 @@ two {m} {k} {at} {r} {s} {p} {q} {l} {l'} {l''} h a b =
       octets = b .octets ∙ rw (a .octets, a .end) (placed-then at p l (omega arith) q);
       small = simp length-append (omega arith);
     }
+
+-- an octet
+pub octet : {at x : ℕ} {l : List ℕ} → at < length l → Piece 1 at (x ∷ []) l (set l at x) (at + 1)
+unfolding placed
+octet {at} {x} {l} h = record { end = refl; octets = rw (append-assoc, add-one) (set-split l at x h); small = omega arith }
+
+pub two-octets : {at x y : ℕ} {l : List ℕ} → at + 2 ≤ length l → Piece 2 at (x ∷ y ∷ []) l (set (set l at x) (at + 1) y) (at + 2)
+two-octets {at} {x} {y} {l} h =
+    let p = two {m = 1} {k = 1} {at = at} {l = l} h (octet {x = x} (omega arith)) (octet {x = y} (simp length-set (omega arith))) in
+    record { end = refl; octets = p .octets; small = p .small }
+
+-- an octet, and what was written after it
+pub marked : {m at r x : ℕ} {p l l' : List ℕ} {w : Wrote} → at + (1 + m) ≤ length l → length p ≤ m → Written true (at + 1) p (set l at x) l' w → r ≡ endOf w → Piece (1 + m) at (x ∷ p) l l' r
+marked {l = l} h k v e = two h (octet (omega arith)) (settled (simp length-set (omega arith)) k v e)
 
 -- a buffer with a piece in it is as long
 pub piece-length : {m at r : ℕ} {p l l' : List ℕ} → at + m ≤ length l → Piece m at p l l' r → length l' ≡ length l

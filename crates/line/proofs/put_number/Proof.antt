@@ -2,7 +2,7 @@ use mathlib.Core.Path.{_∙_}
 use lib.ListN.{length-set}
 use native.Mathlib.Omega.{arith}
 use Rattle.text.proofs.Digits.{at-most-twenty}
-use Rattle.line.proofs.Joined.{marked}
+use Rattle.text.proofs.Pieced.{marked}
 use borrow.Author.Needs.{needs}
 use Rattle.line.proofs.put_number.Statement.{statement}
 use Rattle.line.proofs.put_number.Tie as tie

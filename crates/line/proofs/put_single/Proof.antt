@@ -1,5 +1,6 @@
 use native.Mathlib.Omega.{arith}
-use Rattle.text.proofs.Pieced.{spelled}
+use lib.ListN.{length-set}
+use Rattle.text.proofs.Pieced.{spelled, two-octets}
 use borrow.Author.Needs.{needs}
 use Rattle.line.proofs.put_single.Statement.{statement}
 use Rattle.line.proofs.put_single.Tie as tie
@@ -7,8 +8,17 @@ use Rattle.line.proofs.put_single.Tie as tie
 enum-told : tie.Need-enum-told
 enum-told c = search needs
 
-put-two-requires : tie.Need-put-two-requires
-put-two-requires c κs = search needs
+slice-write-buf : tie.Need-slice-write-buf
+slice-write-buf c = search needs
+
+add-buf : tie.Need-add-buf
+add-buf c = search needs
+
+slice-write-buf-2 : tie.Need-slice-write-buf-2
+slice-write-buf-2 c = simp length-set (omega arith)
+
+add-result : tie.Need-add-result
+add-result c = search needs
 
 enum-told-2 : tie.Need-enum-told-2
 enum-told-2 c = search needs
@@ -29,10 +39,10 @@ put-hex-requires-3 : tie.Need-put-hex-requires-3
 put-hex-requires-3 c κs = search needs
 
 same-length : tie.Need-same-length
-same-length c = search needs
+same-length c = simp length-set
 
 returns : tie.Need-returns
-returns c = spelled (simp (c .before .before .before .before .enum-told .given .1)) (omega arith) (c .before .before .put-two .ensures)
+returns c = spelled (simp (c .enum-told .given .1)) (omega arith) (two-octets (omega arith))
 
 same-length-2 : tie.Need-same-length-2
 same-length-2 c = search needs
@@ -53,22 +63,4 @@ returns-4 : tie.Need-returns-4
 returns-4 c = spelled (simp (c .before .before .before .before .enum-told4 .given .1)) (omega arith) (c .before .before .put-hex3 .ensures)
 
 pub put-single-spec : {M : Type 1} → statement M
-put-single-spec =
-    tie.close
-    (tie.spec
-    enum-told
-    put-two-requires
-    enum-told-2
-    put-hex-requires
-    enum-told-3
-    put-hex-requires-2
-    enum-told-4
-    put-hex-requires-3
-    same-length
-    returns
-    same-length-2
-    returns-2
-    same-length-3
-    returns-3
-    same-length-4
-    returns-4)
+put-single-spec = tie.close (tie.spec enum-told slice-write-buf add-buf slice-write-buf-2 add-result enum-told-2 put-hex-requires enum-told-3 put-hex-requires-2 enum-told-4 put-hex-requires-3 same-length returns same-length-2 returns-2 same-length-3 returns-3 same-length-4 returns-4)

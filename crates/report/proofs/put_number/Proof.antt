@@ -1,29 +1,29 @@
 use native.Mathlib.Omega.{arith}
-use mathlib.Core.Path.{refl}
-use Rattle.text.proofs.Pieced.{spelled, two}
+use mathlib.Core.Path.{_∙_}
+use lib.ListN.{length-set}
+use Rattle.text.proofs.Digits.{at-most-twenty}
+use Rattle.text.proofs.Pieced.{marked}
 use borrow.Author.Needs.{needs}
 use Rattle.report.proofs.put_number.Statement.{statement}
 use Rattle.report.proofs.put_number.Tie as tie
-use Rattle.report.proofs.put_number.Reads as reads
-use Rattle.report.proofs.put_number.Lts as lts
-use Rattle.report.proofs.put.Reads as put-reads
-use Rattle.report.proofs.put_decimal.Reads as put-decimal-reads
 
-slice-aggregate-put : tie.Need-slice-aggregate-put
-slice-aggregate-put c = search needs
+slice-write-buf : tie.Need-slice-write-buf
+slice-write-buf c = search needs
 
-put-requires : tie.Need-put-requires
-put-requires c κs = search needs
+add-write-decimal : tie.Need-add-write-decimal
+add-write-decimal c = search needs
 
-put-decimal-requires : tie.Need-put-decimal-requires
-put-decimal-requires c κs = search needs
+write-decimal-requires : tie.Need-write-decimal-requires
+write-decimal-requires c κs = search needs
+
+end-of-requires : tie.Need-end-of-requires
+end-of-requires c κs = search needs
 
 same-length : tie.Need-same-length
-same-length c = search needs
+same-length c = c .before .before .buf .given ∙ simp length-set
 
 returns : tie.Need-returns
-returns c = spelled refl (omega arith) (two (omega arith) (c .before .before .before .before .before .before .put .ensures) (c .before .before .put-decimal .ensures))
+returns c = marked (c .before .before .before .before .before .before .pre) (at-most-twenty _ (omega arith)) (c .before .before .before .write-decimal .ensures) (c .end-of .ensures)
 
 pub put-number-spec : {M : Type 1} → statement M
-put-number-spec =
-    tie.close (tie.spec slice-aggregate-put put-requires put-decimal-requires same-length returns)
+put-number-spec = tie.close (tie.spec slice-write-buf add-write-decimal write-decimal-requires end-of-requires same-length returns)

@@ -4,9 +4,6 @@ use Rattle.text.proofs.Pieced.{two}
 use borrow.Author.Needs.{needs}
 use Rattle.report.proofs.put_types.Statement.{statement}
 use Rattle.report.proofs.put_types.Tie as tie
-use Rattle.report.proofs.put_types.Reads as reads
-use Rattle.report.proofs.put_types.Lts as lts
-use Rattle.report.proofs.put_type.Reads as put-type-reads
 
 put-type-requires : tie.Need-put-type-requires
 put-type-requires c κs = search needs

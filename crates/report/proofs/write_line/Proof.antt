@@ -5,10 +5,6 @@ use Rattle.text.proofs.Pieced.{at-start}
 use borrow.Author.Needs.{needs}
 use Rattle.report.proofs.write_line.Statement.{statement}
 use Rattle.report.proofs.write_line.Tie as tie
-use Rattle.report.proofs.write_line.Reads as reads
-use Rattle.report.proofs.write_line.Lts as lts
-use Rattle.room.proofs.write_octets.Reads as write-octets-reads
-use Rattle.report.proofs.put_line.Reads as put-line-reads
 
 sub-if2 : tie.Need-sub-if2
 sub-if2 c = search needs

@@ -1,0 +1,36 @@
+-- The Facility column of a message's line.
+use Prim.Native.Nat.{ℕ, _+_}
+use mathlib.Core.List.{List, [], _∷_, _++_}
+use Rattle.component.specs.declared.facility.Wish.{Wish}
+use Rattle.component.specs.declared.facility.Refusal.{Refusal}
+use Rattle.component.specs.declared.facility.Component.{Component}
+use Rattle.component.specs.Facility.{serviceOctet}
+use Rattle.fields.specs.declared.Facilities.{Facilities}
+use Rattle.text.specs.Decimal.{decimalOf}
+
+-- a column, after the space that parts it from the one before
+abbrev pub column : List ℕ → List ℕ
+column c = 32 ∷ c
+
+-- what is absent: `-`
+abbrev pub dash : List ℕ
+dash = 45 ∷ []
+
+-- `p` preferred, `r` required
+abbrev pub wishLetter : Wish → ℕ
+wishLetter Wish.Preferred = 112
+wishLetter Wish.Required = 114
+
+-- each `invoke.service.p` or `invoke.service.r` (preferred, required), `invoke.ok`, `invoke.user` or `invoke.network`
+abbrev pub componentText : Component → List ℕ
+componentText (Component.Invoke id s w) = decimalOf id ++ (46 ∷ (48 + serviceOctet s) ∷ 46 ∷ wishLetter w ∷ [])
+componentText (Component.Accepted id) = decimalOf id ++ (46 ∷ 111 ∷ 107 ∷ [])
+componentText (Component.Rejected id Refusal.ByUser) = decimalOf id ++ (46 ∷ 117 ∷ 115 ∷ 101 ∷ 114 ∷ [])
+componentText (Component.Rejected id Refusal.ByNetwork) = decimalOf id ++ (46 ∷ 110 ∷ 101 ∷ 116 ∷ 119 ∷ 111 ∷ 114 ∷ 107 ∷ [])
+
+-- Facility components joined by `,` or `-`
+abbrev pub facilityColumn : Facilities → List ℕ
+facilityColumn Facilities.Zero = dash
+facilityColumn (Facilities.One a) = componentText a
+facilityColumn (Facilities.Two a b) = componentText a ++ (44 ∷ componentText b)
+facilityColumn (Facilities.Three a b c) = componentText a ++ (44 ∷ (componentText b ++ (44 ∷ componentText c)))
