@@ -5,20 +5,23 @@ use native.Mathlib.Omega.{arith}
 use mathlib.Core.List.{List, [], _∷_}
 use mathlib.Core.Path.{_≡_, refl}
 use lib.ListN.{length, getD}
-use Rattle.rules.specs.declared.phase.Phase.{Phase}
+use Rattle.phases.specs.declared.Phase.{Phase}
 use Rattle.call.specs.declared.Call.{Call}
 use Rattle.meter.specs.Meter.{emptyOf, meterFitsOf, passageOf}
 use Rattle.service.specs.Element.{wellFormedOf, seenOf, goesOutOf}
-use Rattle.service.specs.Rights.{rightsFitOf, referenceFitsOf}
-use Rattle.standing.specs.Standing.{remainsOf, firstStandingOf, standingsOf, lacksOf, failedOf, settlesOf}
+use Rattle.service.specs.Rights.{rightsFitOf, referenceFitsOf, noRights}
+use Rattle.standing.specs.Standing.{remainsOf, noServices}
+use Rattle.requests.specs.Requests.{firstStandingOf, standingsOf, lacksOf, setupPhaseOf}
+use Rattle.fates.specs.Fates.{failedOf, settlesOf, alertingFatesOf}
 use Rattle.asking.specs.Asking.{nobodyAsks}
-use Rattle.call.specs.Sound.{noRights, noServices, emptyMeters, freshCall, fieldsFitOf, soundOf, inPhaseOf}
+use Rattle.meters.specs.Meters.{emptyMeters, refillsOf}
+use Rattle.call.specs.Sound.{freshCall, fieldsFitOf, soundOf, inPhaseOf}
 use Rattle.call.specs.Reply.{barOf, refusedOf, heardOf, replyOf}
-use Rattle.call.specs.Setup.{setupPhaseOf, filledOf, setupCarriesOf, proceedsOf, setupOf}
-use Rattle.call.specs.Answering.{answeredCallOf, goesOnOf, clearsOf, alertingFatesOf, answeredOf, alertingOf}
+use Rattle.call.specs.Setup.{filledOf, setupCarriesOf, proceedsOf, setupOf}
+use Rattle.call.specs.Answering.{answeredCallOf, goesOnOf, clearsOf, answeredOf, alertingOf}
 use Rattle.call.specs.Information.{metersOf, informationPassageOf, carriedOf, withElementOf, informationOf}
 use Rattle.call.specs.Disconnect.{endsOf, releaseCompleteOf}
-use Rattle.call.specs.Tick.{refillsOf, runsOf, passesTickOf, tickOf}
+use Rattle.call.specs.Tick.{runsOf, passesTickOf, tickOf}
 use Rattle.table.specs.Table.{tableSound}
 use Rattle.exchange.specs.Chosen.{chosenOf}
 use Rattle.choosing.specs.Choice.{chooseOf}

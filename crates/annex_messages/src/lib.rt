@@ -12,7 +12,7 @@ use fields::Header;
 use fields::Message;
 use fields::Single;
 use fields::Width;
-use fields::kind::Kind;
+use kinds::Kind;
 
 // Requests in SETUP.
 pub fn calls() {

@@ -10,6 +10,10 @@ use Rattle.asking.specs.declared.What.{What}
 use Rattle.rules.specs.declared.side.Side.{Side}
 use Rattle.service.specs.Rights.{hasOf}
 use Rattle.rules.specs.Side.{peerOf}
+use Rattle.service.specs.declared.cause.Cause.{Cause}
+use Rattle.sent.specs.declared.Kind.{Kind}
+use Rattle.sent.specs.declared.Sent.{Sent}
+use Rattle.sent.specs.Message.{sayingOf}
 
 unfoldable pub nobodyAsks : Asking
 nobodyAsks = record { calling = false; called = false }
@@ -77,3 +81,7 @@ notGrantedOf Answer.BadElement = false
 notGrantedOf Answer.AskedRequired = false
 notGrantedOf Answer.OutOfRange = false
 notGrantedOf Answer.Unsound = false
+
+-- FACILITY that says one thing of service 3
+unfoldable pub aboutThreeOf : Said → Sent
+aboutThreeOf s = sayingOf Kind.Facility Cause.Absent (record { one = Said.Nothing; two = Said.Nothing; three = s }) false

@@ -1,12 +1,17 @@
 // Service 3 asked for while connected: who may ask, who has asked, and what is answered.
 ghost use mathlib.Core.Path.{_≡_};
-ghost use Rattle.asking.specs.Asking.{nobodyAsks, asksOf, withAskOf, mayAskOf, toRequestOf, toAnswerOf, facilityAnswerOf, facilitySaidOf, facilityAskingOf, facilityThreeOf, notGrantedOf};
+ghost use Rattle.asking.specs.Asking.{nobodyAsks, asksOf, withAskOf, mayAskOf, toRequestOf, toAnswerOf, facilityAnswerOf, facilitySaidOf, facilityAskingOf, facilityThreeOf, notGrantedOf, aboutThreeOf};
 use rules::answer::Answer;
 use rules::side::Side;
 use rules::side::peer;
+use sent::Kind;
+use sent::Sent;
+use sent::saying;
+use service::cause::Cause;
 use service::rights::Rights;
 use service::rights::Service;
 use service::rights::has;
+use standing::Facilities;
 use standing::Said;
 use standing::Standing;
 
@@ -145,4 +150,20 @@ pub fn not_granted(a: Answer) -> bool
         Answer::OutOfRange => false,
         Answer::Unsound => false,
     }
+}
+
+// FACILITY about service 3.
+pub fn about_three(s: Said) -> Sent
+    ensures { λ r. ⌜ r ≡ aboutThreeOf s ⌝ }
+{
+    saying(
+        Kind::Facility,
+        Cause::Absent,
+        Facilities {
+            one: Said::Nothing,
+            two: Said::Nothing,
+            three: s,
+        },
+        false,
+    )
 }

@@ -1,39 +1,26 @@
 -- ALERTING and CONNECT.
 use Prim.Native.Nat.{ℕ}
 use mathlib.Core.List.{List}
-use mathlib.Core.Bool.{Bool, true, false, cond, not}
+use mathlib.Core.Bool.{true, false, not}
 use Rattle.service.specs.declared.cause.Cause.{Cause}
 use Rattle.service.specs.declared.element.Seen.{Seen}
 use Rattle.standing.specs.declared.Answers.{Answers}
-use Rattle.standing.specs.declared.Fate.{Fate}
-use Rattle.standing.specs.declared.Fates.{Fates}
-use Rattle.standing.specs.declared.Given.{Given}
-use Rattle.standing.specs.declared.Standings.{Standings}
+use Rattle.fates.specs.declared.Fates.{Fates}
 use Rattle.rules.specs.declared.answer.Answer.{Answer}
-use Rattle.rules.specs.declared.message.Kind.{Kind}
-use Rattle.rules.specs.declared.message.Sent.{Sent}
-use Rattle.rules.specs.declared.phase.Phase.{Phase}
+use Rattle.sent.specs.declared.Kind.{Kind}
+use Rattle.sent.specs.declared.Sent.{Sent}
+use Rattle.phases.specs.declared.Phase.{Phase}
 use Rattle.call.specs.declared.Call.{Call}
-use Rattle.call.specs.declared.Meters.{Meters}
 use Rattle.call.specs.declared.reply.Reply.{Reply}
-use Rattle.meter.specs.Meter.{grantedOf}
-use Rattle.standing.specs.Standing.{inForceOf, decidedOf, failedOf, settlesOf, tellsOf, declinesOf}
+use Rattle.standing.specs.Standing.{inForceOf}
+use Rattle.fates.specs.Fates.{failedOf, settlesOf, tellsOf, declinesOf, alertingFatesOf, connectFatesOf}
 use Rattle.service.specs.Cause.{cleared}
 use Rattle.service.specs.Element.{seenOf, notedOf, goesOutOf}
-use Rattle.rules.specs.Message.{sayingOf, bareOf}
-use Rattle.rules.specs.Phase.{requestedOf, connectableOf}
+use Rattle.sent.specs.Message.{sayingOf, bareOf}
+use Rattle.phases.specs.Phase.{requestedOf, connectableOf}
 use Rattle.call.specs.Sound.{inPhaseOf}
 use Rattle.call.specs.Reply.{barOf, heardOf}
-
--- "Coming into force, service 3 gives each direction X credits"
-unfoldable pub grantsOf : Meters → ℕ → Meters
-grantsOf m burst = record { calling = grantedOf (m .calling) burst; called = grantedOf (m .called) burst }
-
-abbrev pub inForceAfterOf : Meters → ℕ → Fate → Meters
-inForceAfterOf m burst Fate.Kept = m
-inForceAfterOf m burst Fate.Accepted = grantsOf m burst
-inForceAfterOf m burst Fate.Closed = m
-inForceAfterOf m burst (Fate.Failed n) = m
+use Rattle.meters.specs.Meters.{inForceAfterOf}
 
 -- the record in its next phase, with what the answers made of the services
 unfoldable pub answeredCallOf : Call → Phase → Fates → Call
@@ -74,20 +61,6 @@ clearsOf c cause f seen =
 abbrev pub outcomeOf : Call → Kind → Phase → Fates → Seen → Cause → Reply
 outcomeOf c kind next f seen Cause.Absent = goesOnOf c kind next f seen
 outcomeOf c kind next f seen (Cause.Value n) = clearsOf c n f seen
-
--- ALERTING: "Answers to 1 and 2 are due." "Answers not due .. are ignored".
-unfoldable pub alertingFatesOf : Standings → Answers → Fates
-alertingFatesOf s a =
-    record { one = decidedOf (s .one) (a .one); two = decidedOf (s .two) (a .two); three = Fate.Kept }
-
--- CONNECT: "The answer to 3 is due, and to 1 if no ALERTING came; service 2 without ALERTING counts as unanswered."
-unfoldable pub connectFatesOf : Bool → Standings → Answers → Fates
-connectFatesOf alerted s a =
-    record {
-      one = cond alerted Fate.Kept (decidedOf (s .one) (a .one));
-      two = cond alerted Fate.Kept (decidedOf (s .two) Given.Silent);
-      three = decidedOf (s .three) (a .three);
-    }
 
 -- one message with answers
 unfoldable pub answeredOf : Call → Kind → Phase → Fates → List ℕ → Reply

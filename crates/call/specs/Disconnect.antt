@@ -1,44 +1,28 @@
 -- DISCONNECT and RELEASE COMPLETE.
 use Prim.Native.Nat.{ℕ}
 use mathlib.Core.List.{List}
-use mathlib.Core.Bool.{Bool, true, _||_}
+use mathlib.Core.Bool.{true}
 use lib.Dec.{leb}
 use Rattle.service.specs.declared.cause.Cause.{Cause}
 use Rattle.service.specs.declared.element.Note.{Note}
 use Rattle.service.specs.declared.element.Seen.{Seen}
 use Rattle.standing.specs.declared.Answers.{Answers}
-use Rattle.standing.specs.declared.Facilities.{Facilities}
 use Rattle.standing.specs.declared.Standing.{Standing}
-use Rattle.standing.specs.declared.Standings.{Standings}
 use Rattle.rules.specs.declared.answer.Answer.{Answer}
-use Rattle.rules.specs.declared.message.Kind.{Kind}
-use Rattle.rules.specs.declared.message.Sent.{Sent}
-use Rattle.rules.specs.declared.phase.Phase.{Phase}
+use Rattle.sent.specs.declared.Kind.{Kind}
+use Rattle.sent.specs.declared.Sent.{Sent}
+use Rattle.phases.specs.declared.Phase.{Phase}
 use Rattle.rules.specs.declared.side.Side.{Side}
 use Rattle.call.specs.declared.Call.{Call}
 use Rattle.call.specs.declared.reply.Reply.{Reply}
-use Rattle.standing.specs.Standing.{inForceOf, awaitsOf, silentAnswers, rejectionOf, closingSaidOf, closingStandingOf}
+use Rattle.standing.specs.Standing.{inForceOf}
+use Rattle.closing.specs.Closing.{closingStandingOf, heardAnswersOf, closingFacilitiesOf}
 use Rattle.service.specs.Cause.{greatestCause}
 use Rattle.service.specs.Element.{seenOf, notedOf, goesOutOf}
-use Rattle.rules.specs.Message.{sayingOf, bareOf}
-use Rattle.rules.specs.Phase.{upOf, liveOf}
+use Rattle.sent.specs.Message.{sayingOf, bareOf}
+use Rattle.phases.specs.Phase.{upOf, liveOf}
 use Rattle.call.specs.Sound.{inPhaseOf}
 use Rattle.call.specs.Reply.{barOf, heardOf, replyOf}
-
--- "From the called side": the calling side's answers count for nothing
-abbrev pub heardAnswersOf : Side → Answers → Answers
-heardAnswersOf Side.Calling a = silentAnswers
-heardAnswersOf Side.Called a = a
-
--- "rejections of the caller's open requests go on too, and an acceptance of open service 1 counts first and goes on". asks: the caller's own
--- FACILITY request is open.
-unfoldable pub closingFacilitiesOf : Standings → Bool → Answers → Facilities
-closingFacilitiesOf s asks a =
-    record {
-      one = closingSaidOf (s .one) (a .one);
-      two = rejectionOf (awaitsOf (s .two)) (a .two);
-      three = rejectionOf (awaitsOf (s .three) || asks) (a .three);
-    }
 
 -- the record in Clearing, with service 1 as the last answer left it
 unfoldable pub closedCallOf : Call → Standing → Call

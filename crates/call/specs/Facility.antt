@@ -1,24 +1,19 @@
 -- FACILITY: service 3 while connected.
-use Prim.Native.Nat.{ℕ}
-use mathlib.Core.Bool.{true, false, cond, _||_, not}
-use Rattle.service.specs.declared.cause.Cause.{Cause}
+use mathlib.Core.Bool.{true, cond, _||_, not}
 use Rattle.service.specs.declared.element.Note.{Note}
 use Rattle.standing.specs.declared.Said.{Said}
 use Rattle.rules.specs.declared.answer.Answer.{Answer}
 use Rattle.asking.specs.declared.What.{What}
-use Rattle.rules.specs.declared.message.Kind.{Kind}
-use Rattle.rules.specs.declared.message.Sent.{Sent}
 use Rattle.rules.specs.declared.side.Side.{Side}
 use Rattle.call.specs.declared.Call.{Call}
-use Rattle.call.specs.declared.Meters.{Meters}
 use Rattle.call.specs.declared.reply.Reply.{Reply}
 use Rattle.standing.specs.Standing.{inForceOf}
-use Rattle.rules.specs.Message.{sayingOf, onlyIfOf}
-use Rattle.asking.specs.Asking.{asksOf, mayAskOf, toRequestOf, toAnswerOf, facilityAnswerOf, facilitySaidOf, facilityAskingOf, facilityThreeOf, notGrantedOf}
+use Rattle.sent.specs.Message.{onlyIfOf}
+use Rattle.asking.specs.Asking.{asksOf, mayAskOf, toRequestOf, toAnswerOf, facilityAnswerOf, facilitySaidOf, facilityAskingOf, facilityThreeOf, notGrantedOf, aboutThreeOf}
 use Rattle.rules.specs.Side.{peerOf}
 use Rattle.rules.specs.Answer.{takenOf}
-use Rattle.rules.specs.Phase.{activeOf}
-use Rattle.call.specs.Answering.{grantsOf}
+use Rattle.phases.specs.Phase.{activeOf}
+use Rattle.meters.specs.Meters.{facilityMetersOf}
 use Rattle.call.specs.Reply.{barOf, heardOf, replyOf}
 
 -- "for a request 18, 16, 15; for an answer 15". Number 15: "service 3 in force, asker's own request open, or an answer with no open request of
@@ -28,13 +23,6 @@ facilityVerdictOf c side what =
     facilityAnswerOf what
     (toRequestOf (mayAskOf (c .rights) side) (inForceOf (c .standings .three) || asksOf (c .asking) side))
     (toAnswerOf (inForceOf (c .standings .three) || not (asksOf (c .asking) (peerOf side))))
-
--- "Accept puts the service in force": so each direction gets X credits
-abbrev pub facilityMetersOf : Meters → ℕ → What → Meters
-facilityMetersOf m burst What.Preferred = m
-facilityMetersOf m burst What.Accept = grantsOf m burst
-facilityMetersOf m burst What.Reject = m
-facilityMetersOf m burst What.Required = m
 
 -- the record once the message is taken
 unfoldable pub facilityCallOf : Call → Side → What → Call
@@ -52,10 +40,6 @@ facilityCallOf c side what =
       asking = facilityAskingOf (c .asking) side what;
       meters = facilityMetersOf (c .meters) (c .rights .burst) what;
     }
-
--- FACILITY that says one thing of service 3
-unfoldable pub aboutThreeOf : Said → Sent
-aboutThreeOf s = sayingOf Kind.Facility Cause.Absent (record { one = Said.Nothing; two = Said.Nothing; three = s }) false
 
 -- "Request, accept or reject for service 3, passed to the other user when taken"; "16 sends the asker FACILITY with rejectedByNetwork"
 unfoldable pub passesFacilityOf : Call → Side → What → Answer → Reply

@@ -2,32 +2,23 @@
 use Prim.Native.Nat.{ℕ}
 use mathlib.Core.List.{List}
 use mathlib.Core.Bool.{Bool, true, cond}
-use Rattle.meter.specs.declared.Meter.{Meter}
 use Rattle.meter.specs.declared.Passage.{Passage}
 use Rattle.service.specs.declared.element.Note.{Note}
 use Rattle.service.specs.declared.element.Seen.{Seen}
 use Rattle.rules.specs.declared.answer.Answer.{Answer}
-use Rattle.rules.specs.declared.message.Level.{Level}
+use Rattle.sent.specs.declared.Level.{Level}
 use Rattle.rules.specs.declared.side.Side.{Side}
 use Rattle.call.specs.declared.Call.{Call}
-use Rattle.call.specs.declared.Meters.{Meters}
+use Rattle.meters.specs.declared.Meters.{Meters}
 use Rattle.call.specs.declared.reply.Reply.{Reply}
 use Rattle.meter.specs.Meter.{passageOf, afterOf}
 use Rattle.standing.specs.Standing.{inForceOf}
 use Rattle.service.specs.Element.{seenOf, wholeOf, notedOf}
-use Rattle.rules.specs.Message.{congestionOf, informsOf, onlyIfOf}
-use Rattle.rules.specs.Phase.{talkingOf}
+use Rattle.sent.specs.Message.{congestionOf, informsOf, onlyIfOf}
+use Rattle.phases.specs.Phase.{talkingOf}
 use Rattle.rules.specs.Serving.{lateOf, servesTwoOf, servesThreeOf, passageAnswerOf, passesOf, marksOf}
 use Rattle.call.specs.Reply.{barOf, refusedOf, heardOf, replyOf}
-
--- "A call record holds two": the meter of what a side sends
-abbrev pub meterOf : Meters → Side → Meter
-meterOf m Side.Calling = m .calling
-meterOf m Side.Called = m .called
-
-abbrev pub withMeterOf : Meters → Side → Meter → Meters
-withMeterOf m Side.Calling n = record { calling = n; called = m .called }
-withMeterOf m Side.Called n = record { calling = m .calling; called = n }
+use Rattle.meters.specs.Meters.{meterOf, withMeterOf}
 
 -- the record with other meters
 unfoldable pub metersOf : Call → Meters → Call

@@ -2,7 +2,7 @@
 use mathlib.Core.Bool.{Bool, cond}
 use Rattle.service.specs.declared.element.Note.{Note}
 use Rattle.rules.specs.declared.answer.Answer.{Answer}
-use Rattle.rules.specs.declared.message.Sent.{Sent}
+use Rattle.sent.specs.declared.Sent.{Sent}
 use Rattle.rules.specs.declared.side.Side.{Side}
 use Rattle.call.specs.declared.Call.{Call}
 use Rattle.call.specs.declared.reply.Reply.{Reply}

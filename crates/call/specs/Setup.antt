@@ -1,32 +1,23 @@
 -- SETUP.
 use Prim.Native.Nat.{ℕ}
 use mathlib.Core.List.{List}
-use mathlib.Core.Bool.{Bool, false, cond, _&&_, not}
-use Rattle.service.specs.declared.cause.Cause.{Cause}
+use mathlib.Core.Bool.{Bool, _&&_, not}
 use Rattle.service.specs.declared.element.Seen.{Seen}
 use Rattle.service.specs.declared.rights.Rights.{Rights}
-use Rattle.standing.specs.declared.Facilities.{Facilities}
 use Rattle.standing.specs.declared.Requests.{Requests}
 use Rattle.standing.specs.declared.Standings.{Standings}
 use Rattle.rules.specs.declared.answer.Answer.{Answer}
-use Rattle.rules.specs.declared.message.Kind.{Kind}
-use Rattle.rules.specs.declared.message.Sent.{Sent}
-use Rattle.rules.specs.declared.phase.Phase.{Phase}
+use Rattle.phases.specs.declared.Phase.{Phase}
 use Rattle.call.specs.declared.Call.{Call}
 use Rattle.call.specs.declared.reply.Reply.{Reply}
 use Rattle.service.specs.Rights.{rightsFitOf, referenceFitsOf}
-use Rattle.standing.specs.Standing.{remainsOf, standingsOf, lacksOf, passedRequestsOf, networkRefusalsOf}
-use Rattle.service.specs.Cause.{notSubscribed}
+use Rattle.standing.specs.Standing.{remainsOf}
+use Rattle.requests.specs.Requests.{standingsOf, lacksOf, passedRequestsOf, networkRefusalsOf, setupPhaseOf, toCallerOf, toCalledOf}
 use Rattle.service.specs.Element.{seenOf, notedOf, goesOutOf}
-use Rattle.rules.specs.Message.{sayingOf}
 use Rattle.asking.specs.Asking.{nobodyAsks}
-use Rattle.rules.specs.Phase.{freshOf}
-use Rattle.call.specs.Sound.{emptyMeters}
+use Rattle.phases.specs.Phase.{freshOf}
+use Rattle.meters.specs.Meters.{emptyMeters}
 use Rattle.call.specs.Reply.{barOf, heardOf}
-
--- "If a required service is not in the rights: .. Ended. Otherwise .. Requested."
-unfoldable pub setupPhaseOf : Bool → Phase
-setupPhaseOf lacking = cond lacking Phase.Ended Phase.Requested
 
 -- "SETUP fills the whole record, used for one call."
 unfoldable pub filledOf : ℕ → Rights → Phase → Standings → Call
@@ -39,17 +30,6 @@ filledOf reference rights phase standings =
       asking = nobodyAsks;
       meters = emptyMeters;
     }
-
--- "RELEASE COMPLETE to the caller, cause 50, rejectedByNetwork for every asked service the rights lack"; otherwise "CALL PROCEEDING to the caller
--- with rejectedByNetwork for each explicit preferred service lacking"
-unfoldable pub toCallerOf : Bool → Facilities → Sent
-toCallerOf lacking refusals =
-    cond lacking (sayingOf Kind.ReleaseComplete (Cause.Value notSubscribed) refusals false)
-    (sayingOf Kind.CallProceeding Cause.Absent refusals false)
-
--- "Otherwise SETUP goes on with the remaining requests and the element"
-unfoldable pub toCalledOf : Bool → Facilities → Bool → Sent
-toCalledOf lacking requests element = cond lacking Sent.Absent (sayingOf Kind.Setup Cause.Absent requests element)
 
 -- "the element (if service 1 remains)", and the message goes on
 unfoldable pub setupCarriesOf : Rights → Requests → Seen → Bool

@@ -1,24 +1,13 @@
 -- A fresh record, and number 25 for one record.
-use mathlib.Core.Bool.{Bool, true, false, cond, _&&_}
-use Rattle.service.specs.declared.rights.Rights.{Rights}
-use Rattle.standing.specs.declared.Standing.{Standing}
-use Rattle.standing.specs.declared.Standings.{Standings}
-use Rattle.rules.specs.declared.phase.Phase.{Phase}
+use mathlib.Core.Bool.{Bool, true, cond, _&&_}
+use Rattle.phases.specs.declared.Phase.{Phase}
 use Rattle.call.specs.declared.Call.{Call}
-use Rattle.call.specs.declared.Meters.{Meters}
-use Rattle.meter.specs.Meter.{emptyOf, meterFitsOf}
-use Rattle.service.specs.Rights.{rightsFitOf, referenceFitsOf}
+use Rattle.meter.specs.Meter.{meterFitsOf}
+use Rattle.service.specs.Rights.{rightsFitOf, referenceFitsOf, noRights}
 use Rattle.asking.specs.Asking.{nobodyAsks}
-use Rattle.rules.specs.Phase.{liveOf}
-
-unfoldable pub noRights : Rights
-noRights = record { services = 0; late = false; leave = false; limit = 0; burst = 0; refill = 0 }
-
-unfoldable pub noServices : Standings
-noServices = record { one = Standing.Unasked; two = Standing.Unasked; three = Standing.Unasked }
-
-unfoldable pub emptyMeters : Meters
-emptyMeters = record { calling = emptyOf; called = emptyOf }
+use Rattle.phases.specs.Phase.{liveOf}
+use Rattle.meters.specs.Meters.{emptyMeters}
+use Rattle.standing.specs.Standing.{noServices}
 
 -- a record before its SETUP
 unfoldable pub freshCall : Call

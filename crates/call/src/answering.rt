@@ -1,21 +1,27 @@
 // ALERTING and CONNECT: the called side answers what was asked for.
 ghost use mathlib.Core.Path.{_≡_};
-ghost use Rattle.call.specs.Answering.{grantsOf, inForceAfterOf, answeredCallOf, goesOnOf, clearsOf, outcomeOf, alertingFatesOf, connectFatesOf, alertingOf, connectOf};
+ghost use Rattle.call.specs.Answering.{answeredCallOf, goesOnOf, clearsOf, outcomeOf, alertingOf, connectOf};
 use crate::Call;
-use crate::Meters;
 use crate::reply::Reply;
 use crate::reply::barred;
 use crate::reply::heard;
 use crate::sound::in_phase;
-use meter::granted;
+use fates::Fates;
+use fates::alerting_fates;
+use fates::connect_fates;
+use fates::declines;
+use fates::failed;
+use fates::settles;
+use fates::tells;
+use meters::in_force_after;
+use phases::Phase;
+use phases::is_connectable;
+use phases::is_requested;
 use rules::answer::Answer;
-use rules::message::Kind;
-use rules::message::Sent;
-use rules::message::bare;
-use rules::message::saying;
-use rules::phase::Phase;
-use rules::phase::is_connectable;
-use rules::phase::is_requested;
+use sent::Kind;
+use sent::Sent;
+use sent::bare;
+use sent::saying;
 use service::cause::CLEARED;
 use service::cause::Cause;
 use service::element::Seen;
@@ -23,39 +29,7 @@ use service::element::goes_out;
 use service::element::look;
 use service::element::noted;
 use standing::Answers;
-use standing::Fate;
-use standing::Fates;
-use standing::Given;
-use standing::Standings;
-use standing::decided;
-use standing::declines;
-use standing::failed;
 use standing::in_force;
-use standing::settles;
-use standing::tells;
-
-// Service 3 comes into force.
-pub fn grants(m: Meters, burst: u16) -> Meters
-    ensures { λ r. ⌜ r ≡ grantsOf m burst ⌝ }
-{
-    let calling = m.calling;
-    let called = m.called;
-    Meters {
-        calling: granted(calling, burst),
-        called: granted(called, burst),
-    }
-}
-
-fn in_force_after(m: Meters, burst: u16, three: Fate) -> Meters
-    ensures { λ r. ⌜ r ≡ inForceAfterOf m burst three ⌝ }
-{
-    match three {
-        Fate::Kept => m,
-        Fate::Accepted => grants(m, burst),
-        Fate::Closed => m,
-        Fate::Failed(_) => m,
-    }
-}
 
 fn answered_call(c: Call, next: Phase, fates: Fates) -> Call
     ensures { λ r. ⌜ r ≡ answeredCallOf c next fates ⌝ }
@@ -116,45 +90,6 @@ fn outcome(c: Call, kind: Kind, next: Phase, fates: Fates, seen: Seen, failure: 
     match failure {
         Cause::Absent => goes_on(c, kind, next, fates, seen),
         Cause::Value(n) => clears(c, n, fates, seen),
-    }
-}
-
-// Answers to services 1 and 2 are due at ALERTING.
-fn alerting_fates(s: Standings, a: Answers) -> Fates
-    ensures { λ r. ⌜ r ≡ alertingFatesOf s a ⌝ }
-{
-    let one = s.one;
-    let two = s.two;
-    let first = a.one;
-    let second = a.two;
-    Fates {
-        one: decided(one, first),
-        two: decided(two, second),
-        three: Fate::Kept,
-    }
-}
-
-// The answer to service 3 is due at CONNECT; without ALERTING the one to service 1 too, and service 2 counts as unanswered.
-fn connect_fates(alerted: bool, s: Standings, a: Answers) -> Fates
-    ensures { λ r. ⌜ r ≡ connectFatesOf alerted s a ⌝ }
-{
-    let one = s.one;
-    let two = s.two;
-    let three = s.three;
-    let first = a.one;
-    let third = a.three;
-    if alerted {
-        Fates {
-            one: Fate::Kept,
-            two: Fate::Kept,
-            three: decided(three, third),
-        }
-    } else {
-        Fates {
-            one: decided(one, first),
-            two: decided(two, Given::Silent),
-            three: decided(three, third),
-        }
     }
 }
 

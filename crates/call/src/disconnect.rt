@@ -1,21 +1,24 @@
 // DISCONNECT and RELEASE COMPLETE.
 ghost use mathlib.Core.Path.{_≡_};
-ghost use Rattle.call.specs.Disconnect.{heardAnswersOf, closingFacilitiesOf, closedCallOf, passedOnOf, endsOf, disconnectOf, releaseCompleteOf};
+ghost use Rattle.call.specs.Disconnect.{closedCallOf, passedOnOf, endsOf, disconnectOf, releaseCompleteOf};
 use crate::Call;
 use crate::reply::Reply;
 use crate::reply::barred;
 use crate::reply::heard;
 use crate::reply::reply_to;
 use crate::sound::in_phase;
+use closing::closing_facilities;
+use closing::closing_standing;
+use closing::heard_answers;
+use phases::Phase;
+use phases::is_live;
+use phases::is_up;
 use rules::answer::Answer;
-use rules::message::Kind;
-use rules::message::Sent;
-use rules::message::bare;
-use rules::message::saying;
-use rules::phase::Phase;
-use rules::phase::is_live;
-use rules::phase::is_up;
 use rules::side::Side;
+use sent::Kind;
+use sent::Sent;
+use sent::bare;
+use sent::saying;
 use service::cause::Cause;
 use service::cause::GREATEST_CAUSE;
 use service::element::Note;
@@ -24,42 +27,9 @@ use service::element::goes_out;
 use service::element::look;
 use service::element::noted;
 use standing::Answers;
-use standing::Facilities;
 use standing::Standing;
 use standing::Standings;
-use standing::awaits;
-use standing::closing_said;
-use standing::closing_standing;
 use standing::in_force;
-use standing::no_answers;
-use standing::rejection;
-
-// Only the called side has anything to answer.
-fn heard_answers(side: Side, a: Answers) -> Answers
-    ensures { λ r. ⌜ r ≡ heardAnswersOf side a ⌝ }
-{
-    match side {
-        Side::Calling => no_answers(),
-        Side::Called => a,
-    }
-}
-
-// `asks` says whether the caller's own FACILITY request is open.
-fn closing_facilities(s: Standings, asks: bool, a: Answers) -> Facilities
-    ensures { λ r. ⌜ r ≡ closingFacilitiesOf s asks a ⌝ }
-{
-    let one = s.one;
-    let two = s.two;
-    let three = s.three;
-    let first = a.one;
-    let second = a.two;
-    let third = a.three;
-    Facilities {
-        one: closing_said(one, first),
-        two: rejection(awaits(two), second),
-        three: rejection(awaits(three) | asks, third),
-    }
-}
 
 // The record keeps what it had, but for service 1 accepted at the last moment.
 fn closed_call(c: Call, one: Standing) -> Call

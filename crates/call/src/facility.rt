@@ -1,14 +1,13 @@
 // FACILITY: service 3 asked for, accepted or rejected while connected.
 ghost use mathlib.Core.Path.{_≡_};
-ghost use Rattle.call.specs.Facility.{facilityVerdictOf, facilityMetersOf, facilityCallOf, aboutThreeOf, passesFacilityOf, facilityOf};
+ghost use Rattle.call.specs.Facility.{facilityVerdictOf, facilityCallOf, passesFacilityOf, facilityOf};
 use crate::Call;
-use crate::Meters;
-use crate::answering::grants;
 use crate::reply::Reply;
 use crate::reply::barred;
 use crate::reply::heard;
 use crate::reply::reply_to;
 use asking::What;
+use asking::about_three;
 use asking::asks;
 use asking::facility_answer;
 use asking::facility_asking;
@@ -18,18 +17,15 @@ use asking::may_ask;
 use asking::not_granted;
 use asking::to_answer;
 use asking::to_request;
+use meters::facility_meters;
+use phases::is_active;
 use rules::answer::Answer;
 use rules::answer::taken;
-use rules::message::Kind;
-use rules::message::Sent;
-use rules::message::only_if;
-use rules::message::saying;
-use rules::phase::is_active;
 use rules::side::Side;
 use rules::side::peer;
-use service::cause::Cause;
+use sent::Sent;
+use sent::only_if;
 use service::element::Note;
-use standing::Facilities;
 use standing::Said;
 use standing::Standings;
 use standing::in_force;
@@ -45,17 +41,6 @@ fn facility_verdict(c: Call, side: Side, what: What) -> Answer
     let request = to_request(may_ask(rights, side), force | asks(asking, side));
     let answer = to_answer(force | !asks(asking, peer(side)));
     facility_answer(what, request, answer)
-}
-
-fn facility_meters(m: Meters, burst: u16, what: What) -> Meters
-    ensures { λ r. ⌜ r ≡ facilityMetersOf m burst what ⌝ }
-{
-    match what {
-        What::Preferred => m,
-        What::Accept => grants(m, burst),
-        What::Reject => m,
-        What::Required => m,
-    }
 }
 
 fn facility_call(c: Call, side: Side, what: What) -> Call
@@ -81,22 +66,6 @@ fn facility_call(c: Call, side: Side, what: What) -> Call
         asking: facility_asking(asking, side, what),
         meters: facility_meters(meters, rights.burst, what),
     }
-}
-
-// FACILITY about service 3.
-fn about_three(s: Said) -> Sent
-    ensures { λ r. ⌜ r ≡ aboutThreeOf s ⌝ }
-{
-    saying(
-        Kind::Facility,
-        Cause::Absent,
-        Facilities {
-            one: Said::Nothing,
-            two: Said::Nothing,
-            three: s,
-        },
-        false,
-    )
 }
 
 fn passes_facility(c: Call, side: Side, what: What, verdict: Answer) -> Reply

@@ -1,23 +1,20 @@
 // USER INFORMATION.
 ghost use mathlib.Core.Path.{_≡_};
-ghost use Rattle.call.specs.Information.{meterOf, withMeterOf, metersOf, informationPassageOf, carriedOf, withElementOf, informationOf};
+ghost use Rattle.call.specs.Information.{metersOf, informationPassageOf, carriedOf, withElementOf, informationOf};
 use crate::Call;
-use crate::Meters;
 use crate::reply::Reply;
 use crate::reply::barred;
 use crate::reply::heard;
 use crate::reply::refused;
 use crate::reply::reply_to;
-use meter::Meter;
 use meter::Passage;
 use meter::after;
 use meter::passage_of;
+use meters::Meters;
+use meters::meter_of;
+use meters::with_meter;
+use phases::is_talking;
 use rules::answer::Answer;
-use rules::message::Level;
-use rules::message::congestion;
-use rules::message::informs;
-use rules::message::only_if;
-use rules::phase::is_talking;
 use rules::serving::late;
 use rules::serving::marks;
 use rules::serving::passage_answer;
@@ -25,40 +22,16 @@ use rules::serving::passes;
 use rules::serving::serves_three;
 use rules::serving::serves_two;
 use rules::side::Side;
+use sent::Level;
+use sent::congestion;
+use sent::informs;
+use sent::only_if;
 use service::element::Note;
 use service::element::Seen;
 use service::element::look;
 use service::element::noted;
 use service::element::whole;
 use standing::in_force;
-
-// The meter of what a side sends.
-fn meter_of(m: Meters, side: Side) -> Meter
-    ensures { λ r. ⌜ r ≡ meterOf m side ⌝ }
-{
-    match side {
-        Side::Calling => m.calling,
-        Side::Called => m.called,
-    }
-}
-
-// The meters with another one for what a side sends.
-fn with_meter(m: Meters, side: Side, n: Meter) -> Meters
-    ensures { λ r. ⌜ r ≡ withMeterOf m side n ⌝ }
-{
-    let calling = m.calling;
-    let called = m.called;
-    match side {
-        Side::Calling => Meters {
-            calling: n,
-            called: called,
-        },
-        Side::Called => Meters {
-            calling: calling,
-            called: n,
-        },
-    }
-}
 
 pub fn with_meters(c: Call, m: Meters) -> Call
     ensures { λ r. ⌜ r ≡ metersOf c m ⌝ }

@@ -1,8 +1,8 @@
 // One call: its record, the events that it takes, and the replies.
 use asking::Asking;
 use asking::What;
-use meter::Meter;
-use rules::phase::Phase;
+use meters::Meters;
+use phases::Phase;
 use rules::side::Side;
 use service::rights::Rights;
 use standing::Answers;
@@ -18,12 +18,6 @@ pub mod setup;
 pub mod sound;
 pub mod step;
 pub mod tick;
-
-// The meter of what each side sends.
-pub struct Meters {
-    pub calling: Meter,
-    pub called: Meter,
-}
 
 pub struct Call {
     pub reference: u16,

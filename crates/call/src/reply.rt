@@ -4,9 +4,9 @@ ghost use Rattle.call.specs.Reply.{barOf, refusedOf, heardOf, replyOf};
 use crate::Call;
 use rules::answer::Answer;
 use rules::answer::taken;
-use rules::message::Sent;
 use rules::side::Side;
 use rules::side::pick;
+use sent::Sent;
 use service::element::Note;
 
 // calling and called: what is sent to the calling and to the called user.

@@ -1,20 +1,22 @@
 // SETUP.
 ghost use mathlib.Core.Path.{_≡_};
-ghost use Rattle.call.specs.Setup.{setupPhaseOf, filledOf, toCallerOf, toCalledOf, proceedsOf, setupOf};
+ghost use Rattle.call.specs.Setup.{filledOf, proceedsOf, setupOf};
 use crate::Call;
 use crate::reply::Reply;
 use crate::reply::barred;
 use crate::reply::heard;
-use crate::sound::empty_meters;
 use asking::nobody_asks;
+use meters::empty_meters;
+use phases::Phase;
+use phases::is_fresh;
+use requests::lacks;
+use requests::network_refusals;
+use requests::passed_requests;
+use requests::setup_phase;
+use requests::standings_of;
+use requests::to_called;
+use requests::to_caller;
 use rules::answer::Answer;
-use rules::message::Kind;
-use rules::message::Sent;
-use rules::message::saying;
-use rules::phase::Phase;
-use rules::phase::is_fresh;
-use service::cause::Cause;
-use service::cause::NOT_SUBSCRIBED;
 use service::element::Seen;
 use service::element::goes_out;
 use service::element::look;
@@ -22,24 +24,9 @@ use service::element::noted;
 use service::rights::Rights;
 use service::rights::reference_fits;
 use service::rights::rights_fit;
-use standing::Facilities;
 use standing::Requests;
 use standing::Standings;
-use standing::lacks;
-use standing::network_refusals;
-use standing::passed_requests;
 use standing::remains;
-use standing::standings_of;
-
-fn setup_phase(lacking: bool) -> Phase
-    ensures { λ r. ⌜ r ≡ setupPhaseOf lacking ⌝ }
-{
-    if lacking {
-        Phase::Ended
-    } else {
-        Phase::Requested
-    }
-}
 
 // The record of a new call, whole.
 fn filled(reference: u16, rights: Rights, phase: Phase, standings: Standings) -> Call
@@ -52,31 +39,6 @@ fn filled(reference: u16, rights: Rights, phase: Phase, standings: Standings) ->
         standings: standings,
         asking: nobody_asks(),
         meters: empty_meters(),
-    }
-}
-
-fn to_caller(lacking: bool, refusals: Facilities) -> Sent
-    ensures { λ r. ⌜ r ≡ toCallerOf lacking refusals ⌝ }
-{
-    if lacking {
-        saying(
-            Kind::ReleaseComplete,
-            Cause::Value(NOT_SUBSCRIBED),
-            refusals,
-            false,
-        )
-    } else {
-        saying(Kind::CallProceeding, Cause::Absent, refusals, false)
-    }
-}
-
-fn to_called(lacking: bool, requests: Facilities, element: bool) -> Sent
-    ensures { λ r. ⌜ r ≡ toCalledOf lacking requests element ⌝ }
-{
-    if lacking {
-        Sent::Absent
-    } else {
-        saying(Kind::Setup, Cause::Absent, requests, element)
     }
 }
 

@@ -1,51 +1,17 @@
 // A fresh record, whether a record is live, and whether a live record is sound.
 ghost use mathlib.Core.Path.{_≡_};
-ghost use Rattle.call.specs.Sound.{noRights, emptyMeters, noServices, fieldsFitOf, inPhaseOf, freshCall, soundOf};
-ghost use Rattle.rules.specs.Phase.{liveOf};
+ghost use Rattle.call.specs.Sound.{fieldsFitOf, inPhaseOf, freshCall, soundOf};
+ghost use Rattle.phases.specs.Phase.{liveOf};
 use crate::Call;
-use crate::Meters;
 use asking::nobody_asks;
-use meter::empty;
 use meter::meter_fits;
-use rules::phase::Phase;
-use rules::phase::is_live;
-use service::rights::Rights;
+use meters::empty_meters;
+use phases::Phase;
+use phases::is_live;
+use service::rights::no_rights;
 use service::rights::reference_fits;
 use service::rights::rights_fit;
-use standing::Standing;
-use standing::Standings;
-
-fn no_rights() -> Rights
-    ensures { λ r. ⌜ r ≡ noRights ⌝ }
-{
-    Rights {
-        services: 0,
-        late: false,
-        leave: false,
-        limit: 0,
-        burst: 0,
-        refill: 0,
-    }
-}
-
-pub fn empty_meters() -> Meters
-    ensures { λ r. ⌜ r ≡ emptyMeters ⌝ }
-{
-    Meters {
-        calling: empty(),
-        called: empty(),
-    }
-}
-
-fn no_services() -> Standings
-    ensures { λ r. ⌜ r ≡ noServices ⌝ }
-{
-    Standings {
-        one: Standing::Unasked,
-        two: Standing::Unasked,
-        three: Standing::Unasked,
-    }
-}
+use standing::no_services;
 
 fn fields_fit(c: Call) -> bool
     ensures { λ r. ⌜ r ≡ fieldsFitOf c ⌝ }

@@ -14,7 +14,7 @@ use Rattle.component.specs.declared.facility.Component.{Component}
 use Rattle.component.specs.declared.facility.Facility.{Facility}
 use Rattle.cause.specs.Cause.{causeOf}
 use Rattle.component.specs.Facility.{Slot, serviceOf, wishOf, refusalOf, invokeSays, errorSays, readAs, invokeForm, resultForm, errorForm, invokeOf, resultOf, errorOf, or, facilityOf, spells, invokeNumber}
-use Rattle.fields.specs.declared.kind.Typed.{Typed}
+use Rattle.kinds.specs.declared.Typed.{Typed}
 use Rattle.fields.specs.declared.Width.{Width}
 use Rattle.fields.specs.declared.Single.{Single}
 use Rattle.fields.specs.declared.Facilities.{Facilities}
@@ -22,7 +22,7 @@ use Rattle.fields.specs.declared.Header.{Header}
 use Rattle.fields.specs.declared.Place.{Place}
 use Rattle.elements.specs.declared.Reading.{Reading}
 use Rattle.elements.specs.declared.Read.{Read}
-use Rattle.fields.specs.Kind.{kindOf}
+use Rattle.kinds.specs.Kind.{kindOf}
 use Rattle.elements.specs.Elements.{Element, Split, cut, whole, elements, counted}
 use Rattle.elements.specs.Meaning.{firstCause, andSays, components, firstThree, readingOf, takenOf}
 use Rattle.message.specs.Reading.{widthOf, referenceOf, typedOf, headedOf, readOf, placeIn}

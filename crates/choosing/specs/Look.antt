@@ -4,7 +4,7 @@ use mathlib.Core.Bool.{Bool, true, false, cond, not, _&&_}
 use lib.Dec.{eqb}
 use Rattle.call.specs.declared.Call.{Call}
 use Rattle.call.specs.Sound.{soundOf}
-use Rattle.rules.specs.Phase.{liveOf}
+use Rattle.phases.specs.Phase.{liveOf}
 use Rattle.choosing.specs.declared.look.Found.{Found}
 
 -- a live record of the reference n

@@ -13,12 +13,11 @@ use Rattle.fields.specs.declared.Single.{Single}
 use Rattle.fields.specs.declared.Facilities.{Facilities}
 use Rattle.fields.specs.declared.Header.{Header}
 use Rattle.fields.specs.declared.Place.{Place}
-use Rattle.fields.specs.declared.found.Seen.{Seen}
-use Rattle.fields.specs.declared.found.Found.{Found}
+use Rattle.found.specs.declared.Seen.{Seen}
+use Rattle.found.specs.declared.Found.{Found}
 use Rattle.elements.specs.Elements.{Element}
-use Rattle.fields.specs.Found.{singleOf, orSingle}
+use Rattle.found.specs.Found.{singleOf, orSingle, noteCause, oneMore, noteFacility, notePlace}
 use Rattle.elements.specs.Meaning.{firstSingle, firstCause, firstPlace, andSays, components, firstThree}
-use Rattle.fields.specs.Found.{noteCause, oneMore, noteFacility, notePlace}
 use Rattle.elements.specs.Scan.{causeThen, listed, placeThen, readingFrom, Adds}
 
 cause-law : (s : Seen) (b : List ℕ) (c : Cause) → causeThen (noteCause s b) c ≡ causeThen s (causeOf b)

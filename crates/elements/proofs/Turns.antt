@@ -12,15 +12,14 @@ use Rattle.fields.specs.declared.Single.{Single}
 use Rattle.fields.specs.declared.Facilities.{Facilities}
 use Rattle.fields.specs.declared.Header.{Header}
 use Rattle.fields.specs.declared.Place.{Place}
-use Rattle.fields.specs.declared.found.Seen.{Seen}
-use Rattle.fields.specs.declared.found.Found.{Found}
+use Rattle.found.specs.declared.Seen.{Seen}
+use Rattle.found.specs.declared.Found.{Found}
 use Rattle.elements.specs.declared.Fault.{Fault}
 use Rattle.elements.specs.declared.Read.{Read}
 use Rattle.elements.specs.declared.End.{End}
 use Rattle.elements.specs.Elements.{Element, Split, cut, whole, then, elements, counted, between, Ended, Ends}
-use Rattle.fields.specs.Found.{orSingle}
+use Rattle.found.specs.Found.{orSingle, causeSeen}
 use Rattle.elements.specs.Meaning.{firstSingle, firstCause, firstPlace, components, firstThree, readingOf, takenOf}
-use Rattle.fields.specs.Found.{causeSeen}
 use Rattle.elements.specs.Scan.{causeThen, listed, placeThen, readingFrom, Adds, takenWith}
 use Rattle.elements.proofs.Splitting.{none-left}
 

@@ -9,12 +9,12 @@ use Rattle.component.specs.declared.facility.Component.{Component}
 use Rattle.component.specs.declared.facility.Facility.{Facility}
 use Rattle.cause.specs.Cause.{causeOf}
 use Rattle.component.specs.Facility.{facilityOf}
-use Rattle.fields.specs.declared.kind.Kind.{Kind}
+use Rattle.kinds.specs.declared.Kind.{Kind}
 use Rattle.fields.specs.declared.Single.{Single}
 use Rattle.fields.specs.declared.Facilities.{Facilities}
 use Rattle.fields.specs.declared.Header.{Header}
 use Rattle.fields.specs.declared.Place.{Place}
-use Rattle.fields.specs.Found.{orSingle, singleOf}
+use Rattle.found.specs.Found.{orSingle, singleOf}
 use Rattle.elements.specs.declared.Reading.{Reading}
 use Rattle.elements.specs.declared.Fault.{Fault}
 use Rattle.elements.specs.declared.Read.{Read}

@@ -8,10 +8,10 @@ use Rattle.fields.specs.declared.Header.{Header}
 use Rattle.fields.specs.declared.Place.{Place}
 use Rattle.elements.specs.declared.Reading.{Reading}
 use Rattle.elements.specs.declared.Read.{Read}
-use Rattle.fields.specs.declared.found.Seen.{Seen}
-use Rattle.fields.specs.declared.found.Found.{Found}
+use Rattle.found.specs.declared.Seen.{Seen}
+use Rattle.found.specs.declared.Found.{Found}
 use Rattle.elements.specs.Elements.{Element}
-use Rattle.fields.specs.Found.{orSingle, causeSeen}
+use Rattle.found.specs.Found.{orSingle, causeSeen}
 use Rattle.elements.specs.Meaning.{firstSingle, firstCause, firstPlace, components, firstThree}
 
 -- what was found before, and then the elements that are left

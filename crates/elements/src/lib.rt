@@ -11,14 +11,14 @@ use fields::Header;
 use fields::Message;
 use fields::Place;
 use fields::Single;
-use fields::found::Found;
-use fields::found::Seen;
-use fields::found::cause_seen;
-use fields::found::first_cause;
-use fields::found::first_place;
-use fields::found::first_single;
-use fields::found::single_in;
-use fields::found::with_facility;
+use found::Found;
+use found::Seen;
+use found::cause_seen;
+use found::first_cause;
+use found::first_place;
+use found::first_single;
+use found::single_in;
+use found::with_facility;
 
 pub struct Reading {
     pub message: Message,

@@ -9,8 +9,8 @@ use mathlib.Core.Logic.{inl, inr}
 use lib.Dec.{leb, eqb}
 use lib.ListN.{length, getD}
 use borrow.Author.Tests.{leb-true, leb-false, eqb-true, eq-eqb}
-use Rattle.rules.specs.declared.phase.Phase.{Phase}
-use Rattle.rules.specs.Phase.{liveOf}
+use Rattle.phases.specs.declared.Phase.{Phase}
+use Rattle.phases.specs.Phase.{liveOf}
 use Rattle.call.specs.declared.Call.{Call}
 use Rattle.call.specs.Sound.{freshCall, soundOf, fieldsFitOf}
 use Rattle.choosing.specs.Look.{liveAs, isAt}

@@ -6,7 +6,7 @@ use mathlib.Core.Logic.{_⊎_}
 use mathlib.Core.Path.{_≡_}
 use lib.ListN.{length, getD, set}
 use Rattle.order.specs.First.{Rows, end, row, Exactly}
-use Rattle.rules.specs.declared.phase.Phase.{Phase}
+use Rattle.phases.specs.declared.Phase.{Phase}
 use Rattle.rules.specs.Answer.{numberOf}
 use Rattle.call.specs.declared.Call.{Call}
 use Rattle.call.specs.declared.Event.{Event}

@@ -1,10 +1,7 @@
-// What a message says, by value, and what one more element adds to what was found before it.
-pub mod found;
-pub mod kind;
-
-use crate::kind::Kind;
+// What a message says, by value.
 use cause::Cause;
 use component::facility::Component;
+use kinds::Kind;
 
 // How many octets the call reference has.
 pub enum Width {

@@ -12,13 +12,13 @@ use denote.Enum.Declared.{tagOf}
 use Rattle.cause.specs.declared.Cause.{Cause}
 use Rattle.component.specs.declared.facility.Component.{Component}
 use Rattle.component.specs.Facility.{filled, facilityOctets}
-use Rattle.fields.specs.declared.kind.Kind.{Kind}
-use Rattle.fields.proofs.kind.Kind.{the-type}
+use Rattle.kinds.specs.declared.Kind.{Kind}
+use Rattle.kinds.proofs.Kind.{the-type}
 use Rattle.fields.specs.declared.Width.{Width}
 use Rattle.fields.specs.declared.Single.{Single}
 use Rattle.fields.specs.declared.Facilities.{Facilities}
 use Rattle.fields.specs.declared.Message.{Message}
-use Rattle.fields.specs.Kind.{kindOctet}
+use Rattle.kinds.specs.Kind.{kindOctet}
 use Rattle.fitting.specs.Writing.{referenceOctets, headerOctets, headerSize, singleOctets, causesOctets, facilitiesOctets, frontOctets, messageOctets, referenceFits, plainFits, singleFits, causesFit, facilitiesFit, userFits, messageFits}
 
 -- two tests that both hold

@@ -7,13 +7,13 @@ use lib.Dec.{ltb, eqb}
 use Rattle.cause.specs.declared.Cause.{Cause}
 use Rattle.cause.specs.Cause.{causeFits, causeOctets}
 use Rattle.component.specs.Facility.{componentFits, facilityOctets}
-use Rattle.fields.specs.declared.kind.Kind.{Kind}
+use Rattle.kinds.specs.declared.Kind.{Kind}
 use Rattle.fields.specs.declared.Width.{Width}
 use Rattle.fields.specs.declared.Single.{Single}
 use Rattle.fields.specs.declared.Facilities.{Facilities}
 use Rattle.fields.specs.declared.Header.{Header}
 use Rattle.fields.specs.declared.Message.{Message}
-use Rattle.fields.specs.Kind.{kindOctet}
+use Rattle.kinds.specs.Kind.{kindOctet}
 
 -- seven bits of the reference, with the flag as the top bit
 abbrev pub topOf : Bool → ℕ → ℕ

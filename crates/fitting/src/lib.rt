@@ -11,7 +11,7 @@ use fields::Facilities;
 use fields::Message;
 use fields::Single;
 use fields::Width;
-use fields::kind::Kind;
+use kinds::Kind;
 
 // References 0 to 127 or to 32767, by length.
 fn reference_fits(w: Width, r: u16) -> bool

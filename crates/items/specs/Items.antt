@@ -4,9 +4,9 @@ use mathlib.Core.List.{List, [], _∷_, _++_}
 use mathlib.Core.Bool.{Bool, true, false}
 use Rattle.service.specs.declared.cause.Cause.{Cause}
 use Rattle.standing.specs.declared.Said.{Said}
-use Rattle.rules.specs.declared.message.Level.{Level}
-use Rattle.rules.specs.declared.message.Message.{Message}
-use Rattle.rules.specs.declared.message.Sent.{Sent}
+use Rattle.sent.specs.declared.Level.{Level}
+use Rattle.sent.specs.declared.Message.{Message}
+use Rattle.sent.specs.declared.Sent.{Sent}
 use Rattle.text.specs.Decimal.{decimalOf}
 
 -- what is absent: `-`

@@ -8,9 +8,9 @@ ghost use Rattle.items.specs.Items.{column, causeItem, levelItem, saidIt
 use room::Wrote;
 use room::end_of;
 use room::write_octets;
-use rules::message::Level;
-use rules::message::Message;
-use rules::message::Sent;
+use sent::Level;
+use sent::Message;
+use sent::Sent;
 use service::cause::Cause;
 use standing::Said;
 use text::decimal::write_decimal;

@@ -8,7 +8,7 @@ use Rattle.fields.specs.declared.Header.{Header}
 use Rattle.fields.specs.declared.Place.{Place}
 use Rattle.elements.specs.declared.Reading.{Reading}
 use Rattle.elements.specs.declared.Read.{Read}
-use Rattle.fields.specs.Kind.{kindOctet}
+use Rattle.kinds.specs.Kind.{kindOctet}
 use Rattle.elements.specs.Numbers.{readNumber}
 use Rattle.text.specs.Decimal.{decimalOf}
 use Rattle.text.specs.Hex.{hexOf}

@@ -21,7 +21,7 @@ use fields::Header;
 use fields::Message;
 use fields::Place;
 use fields::Single;
-use fields::kind::kind_octet;
+use kinds::kind_octet;
 use message::reader::read_message;
 use room::Wrote;
 use room::end_of;

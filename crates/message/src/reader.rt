@@ -8,8 +8,8 @@ use elements::scan;
 use fields::Header;
 use fields::Place;
 use fields::Width;
-use fields::kind::Typed;
-use fields::kind::kind_in;
+use kinds::Typed;
+use kinds::kind_in;
 
 fn wide16(x: u8) -> u16
     ensures { λ r. ⌜ (r ≡ x) × (r < 256) ⌝ }

@@ -1,2 +1,1 @@
 pub mod Meter
-pub mod Lent

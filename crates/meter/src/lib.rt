@@ -2,8 +2,6 @@
 ghost use mathlib.Core.Path.{_≡_};
 ghost use Rattle.meter.specs.Meter.{emptyOf, meterFitsOf, grantedOf, refilledOf, tickedOf, underThreeOf, passageOf, afterOf};
 
-pub mod lent;
-
 // Messages that service 2 lets through in one direction.
 pub const GREATEST_COUNT: u8 = 2;
 

@@ -15,7 +15,7 @@ use Rattle.room.specs.declared.Wrote.{Wrote}
 use Rattle.room.specs.Room.{placed, wroteOf, leftOf}
 use Rattle.fields.specs.declared.Message.{Message}
 use Rattle.elements.specs.declared.Read.{Read}
-use Rattle.fields.specs.Kind.{kindOf}
+use Rattle.kinds.specs.Kind.{kindOf}
 use Rattle.elements.specs.Elements.{then, elements}
 use Rattle.elements.specs.Meaning.{takenOf}
 use Rattle.message.specs.Reading.{headedOf, readOf, userUserOf}

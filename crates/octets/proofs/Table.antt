@@ -10,12 +10,12 @@ use lib.ListN.{length, getD, take, drop, take-append-drop}
 use lib.Seq.{length-take-le}
 use lib.Dec.{ltb, leb, eqb}
 use Rattle.order.specs.First.{Rows, end, row, First}
-use Rattle.fields.specs.declared.kind.Typed.{Typed}
+use Rattle.kinds.specs.declared.Typed.{Typed}
 use Rattle.fields.specs.declared.Width.{Width}
 use Rattle.fields.specs.declared.Header.{Header}
 use Rattle.elements.specs.declared.Fault.{Fault}
 use Rattle.elements.specs.declared.Read.{Read}
-use Rattle.fields.specs.Kind.{kindOf}
+use Rattle.kinds.specs.Kind.{kindOf}
 use Rattle.elements.specs.Elements.{Element, Split, cut, whole, then, elements}
 use Rattle.elements.specs.Meaning.{takenOf}
 use Rattle.message.specs.Reading.{widthOf, headerOf, typedOf, headedOf, readOf}

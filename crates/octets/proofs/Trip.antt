@@ -14,23 +14,22 @@ use Rattle.cause.specs.declared.Cause.{Cause}
 use Rattle.component.specs.declared.facility.Component.{Component}
 use Rattle.component.specs.Facility.{componentFits, bodyOf, facilityOctets}
 use Rattle.component.proofs.Back.{facility-back, cause-back}
-use Rattle.fields.specs.declared.kind.Kind.{Kind}
-use Rattle.fields.specs.declared.kind.Typed.{Typed}
+use Rattle.kinds.specs.declared.Kind.{Kind}
+use Rattle.kinds.specs.declared.Typed.{Typed}
 use Rattle.fields.specs.declared.Width.{Width}
 use Rattle.fields.specs.declared.Single.{Single}
 use Rattle.fields.specs.declared.Facilities.{Facilities}
 use Rattle.fields.specs.declared.Header.{Header}
 use Rattle.fields.specs.declared.Message.{Message}
 use Rattle.fields.specs.declared.Place.{Place}
-use Rattle.fields.specs.declared.found.Seen.{Seen}
-use Rattle.fields.specs.declared.found.Found.{Found}
+use Rattle.found.specs.declared.Seen.{Seen}
+use Rattle.found.specs.declared.Found.{Found}
 use Rattle.elements.specs.declared.Read.{Read}
-use Rattle.fields.specs.Kind.{kindOf, kindOctet}
+use Rattle.kinds.specs.Kind.{kindOf, kindOctet}
 use Rattle.elements.specs.Elements.{element, elements, counted}
-use Rattle.fields.specs.Found.{moreIn, levelIn, singleOf}
+use Rattle.found.specs.Found.{moreIn, levelIn, singleOf, oneMore, causeSeen}
 use Rattle.elements.specs.Meaning.{takenOf}
 use Rattle.message.specs.Reading.{readOf, partOf, userUserOf}
-use Rattle.fields.specs.Found.{oneMore, causeSeen}
 use Rattle.elements.specs.Scan.{Adds, takenWith}
 use Rattle.fitting.specs.Writing.{topOf, headerOctets, headerSize, singleOctets, causesOctets, facilitiesOctets, frontOctets, messageOctets, referenceFits, plainFits, moreFits, singleFits, causesFit, facilitiesFit, messageFits}
 use Rattle.octets.specs.Promises.{UserElement, placeFor}

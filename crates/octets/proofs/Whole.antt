@@ -9,12 +9,12 @@ use borrow.Author.Tests.{leb-true, leb-false, eqb-true, le-leb}
 use lib.ListN.{length, getD, take, drop, length-drop}
 use lib.Seq.{length-take-le, drop-drop, getD-drop}
 use lib.Dec.{ltb, leb, eqb}
-use Rattle.fields.specs.declared.kind.Typed.{Typed}
+use Rattle.kinds.specs.declared.Typed.{Typed}
 use Rattle.fields.specs.declared.Width.{Width}
 use Rattle.fields.specs.declared.Header.{Header}
 use Rattle.fields.specs.declared.Place.{Place}
 use Rattle.elements.specs.declared.Read.{Read}
-use Rattle.fields.specs.Kind.{kindOf}
+use Rattle.kinds.specs.Kind.{kindOf}
 use Rattle.elements.specs.Elements.{element, Split, cut, whole, then, elements, locking, shifting, counted}
 use Rattle.elements.specs.Elements as el
 use Rattle.elements.specs.Meaning.{firstPlace, readingOf, takenOf}

@@ -11,15 +11,15 @@ use Rattle.room.specs.declared.Wrote.{Wrote}
 use Rattle.room.specs.Room.{wroteOf, leftOf}
 use Rattle.component.specs.Facility.{invokeNumber}
 use Rattle.room.specs.Numbers.{wroteNumber}
-use Rattle.fields.specs.declared.kind.Kind.{Kind}
-use Rattle.fields.specs.declared.kind.Typed.{Typed}
+use Rattle.kinds.specs.declared.Kind.{Kind}
+use Rattle.kinds.specs.declared.Typed.{Typed}
 use Rattle.fields.specs.declared.Width.{Width}
 use Rattle.fields.specs.declared.Single.{Single}
 use Rattle.fields.specs.declared.Facilities.{Facilities}
 use Rattle.fields.specs.declared.Message.{Message}
 use Rattle.fields.specs.declared.Place.{Place}
 use Rattle.elements.specs.declared.Read.{Read}
-use Rattle.fields.specs.Kind.{kindOf}
+use Rattle.kinds.specs.Kind.{kindOf}
 use Rattle.message.specs.Reading.{readOf, placeIn, userUserOf}
 use Rattle.fitting.specs.Writing.{frontOctets, messageOctets, messageFits}
 use Rattle.elements.specs.Numbers.{readNumber}

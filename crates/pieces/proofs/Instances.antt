@@ -8,15 +8,17 @@ use borrow.Author.Tests.{ltb-true}
 use lib.Dec.{ltb}
 use Rattle.meter.specs.Meter.{emptyOf, meterFitsOf}
 use Rattle.service.specs.Element.{wellFormedOf, seenOf, goesOutOf}
-use Rattle.service.specs.Rights.{rightsFitOf, referenceFitsOf}
-use Rattle.standing.specs.Standing.{remainsOf, firstStandingOf, standingsOf, lacksOf, passedRequestsOf, networkRefusalsOf}
+use Rattle.service.specs.Rights.{rightsFitOf, referenceFitsOf, noRights}
+use Rattle.standing.specs.Standing.{remainsOf, noServices}
+use Rattle.requests.specs.Requests.{firstStandingOf, standingsOf, lacksOf, passedRequestsOf, networkRefusalsOf, setupPhaseOf, toCallerOf, toCalledOf}
 use Rattle.asking.specs.Asking.{nobodyAsks}
-use Rattle.rules.specs.Message.{sayingOf, onlyIfOf}
-use Rattle.call.specs.Sound.{noRights, noServices, emptyMeters, freshCall, fieldsFitOf, soundOf}
+use Rattle.sent.specs.Message.{sayingOf, onlyIfOf}
+use Rattle.meters.specs.Meters.{emptyMeters, refillsOf, readyOf}
+use Rattle.call.specs.Sound.{freshCall, fieldsFitOf, soundOf}
 use Rattle.call.specs.Reply.{barOf, refusedOf, heardOf}
-use Rattle.call.specs.Setup.{setupPhaseOf, filledOf, toCallerOf, toCalledOf, setupCarriesOf, proceedsOf, setupOf}
+use Rattle.call.specs.Setup.{filledOf, setupCarriesOf, proceedsOf, setupOf}
 use Rattle.call.specs.Information.{metersOf}
-use Rattle.call.specs.Tick.{refillsOf, readyOf, runsOf, passesTickOf, tickOf}
+use Rattle.call.specs.Tick.{runsOf, passesTickOf, tickOf}
 use Rattle.table.specs.Table.{tableSound}
 use Rattle.exchange.specs.Chosen.{chosenOf}
 use Rattle.choosing.specs.Choice.{chooseOf}

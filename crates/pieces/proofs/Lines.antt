@@ -10,9 +10,9 @@ use Rattle.service.specs.declared.element.Note.{Note}
 use Rattle.standing.specs.declared.Said.{Said}
 use Rattle.service.specs.Element.{noteNumberOf}
 use Rattle.rules.specs.declared.answer.Answer.{Answer}
-use Rattle.rules.specs.declared.message.Level.{Level}
-use Rattle.rules.specs.declared.message.Message.{Message}
-use Rattle.rules.specs.declared.message.Sent.{Sent}
+use Rattle.sent.specs.declared.Level.{Level}
+use Rattle.sent.specs.declared.Message.{Message}
+use Rattle.sent.specs.declared.Sent.{Sent}
 use Rattle.rules.specs.Answer.{numberOf}
 use Rattle.call.specs.declared.Call.{Call}
 use Rattle.choosing.specs.declared.choice.Verdict.{Verdict}

@@ -7,22 +7,23 @@ use borrow.Author.Tests.{ltb-true, ltb-false, leb-true, leb-false}
 use lib.Dec.{ltb, leb}
 use Rattle.meter.specs.declared.Meter.{Meter}
 use Rattle.meter.specs.declared.Passage.{Passage}
-use Rattle.standing.specs.declared.Fate.{Fate}
+use Rattle.fates.specs.declared.Fate.{Fate}
 use Rattle.standing.specs.declared.Given.{Given}
 use Rattle.standing.specs.declared.Standing.{Standing}
 use Rattle.service.specs.declared.rights.Service.{Service}
 use Rattle.asking.specs.declared.Asking.{Asking}
-use Rattle.rules.specs.declared.phase.Phase.{Phase}
+use Rattle.phases.specs.declared.Phase.{Phase}
 use Rattle.rules.specs.declared.side.Side.{Side}
 use Rattle.call.specs.declared.Call.{Call}
-use Rattle.call.specs.declared.Meters.{Meters}
+use Rattle.meters.specs.declared.Meters.{Meters}
 use Rattle.meter.specs.Meter.{grantedOf, refilledOf, tickedOf, countedOf, spentOf, markedOf, underThreeOf, passageOf, afterOf}
 use Rattle.service.specs.Rights.{hasOf}
-use Rattle.standing.specs.Standing.{inForceOf, remainsOf, decidedOf, settledOf, failureOf, closingStandingOf}
+use Rattle.standing.specs.Standing.{inForceOf, remainsOf}
+use Rattle.fates.specs.Fates.{decidedOf, settledOf, failureOf}
+use Rattle.closing.specs.Closing.{closingStandingOf}
 use Rattle.asking.specs.Asking.{nobodyAsks}
 use Rattle.rules.specs.Serving.{lateOf, passesOf}
-use Rattle.call.specs.Answering.{grantsOf, inForceAfterOf}
-use Rattle.call.specs.Information.{meterOf}
+use Rattle.meters.specs.Meters.{grantsOf, inForceAfterOf, meterOf}
 use Rattle.promises.specs.MoreRights.{NoLess}
 use Rattle.ranges.proofs.Decide.{never, by-cond}
 

@@ -14,8 +14,8 @@ use Rattle.service.specs.declared.cause.Cause.{Cause}
 use Rattle.service.specs.declared.element.Seen.{Seen}
 use Rattle.service.specs.declared.rights.Rights.{Rights}
 use Rattle.standing.specs.declared.Answers.{Answers}
-use Rattle.standing.specs.declared.Fate.{Fate}
-use Rattle.standing.specs.declared.Fates.{Fates}
+use Rattle.fates.specs.declared.Fate.{Fate}
+use Rattle.fates.specs.declared.Fates.{Fates}
 use Rattle.standing.specs.declared.Given.{Given}
 use Rattle.standing.specs.declared.Request.{Request}
 use Rattle.standing.specs.declared.Requests.{Requests}
@@ -24,31 +24,35 @@ use Rattle.standing.specs.declared.Standings.{Standings}
 use Rattle.rules.specs.declared.answer.Answer.{Answer}
 use Rattle.asking.specs.declared.Asking.{Asking}
 use Rattle.asking.specs.declared.What.{What}
-use Rattle.rules.specs.declared.message.Kind.{Kind}
-use Rattle.rules.specs.declared.phase.Phase.{Phase}
+use Rattle.sent.specs.declared.Kind.{Kind}
+use Rattle.phases.specs.declared.Phase.{Phase}
 use Rattle.rules.specs.declared.side.Side.{Side}
 use Rattle.call.specs.declared.Call.{Call}
 use Rattle.call.specs.declared.Event.{Event}
-use Rattle.call.specs.declared.Meters.{Meters}
+use Rattle.meters.specs.declared.Meters.{Meters}
 use Rattle.call.specs.declared.reply.Reply.{Reply}
 use Rattle.meter.specs.Meter.{emptyOf, grantedOf, refilledOf, tickedOf, countedOf, spentOf, markedOf, underThreeOf, passageOf, afterOf}
 use Rattle.service.specs.Cause.{firstOf}
 use Rattle.service.specs.Element.{wellFormedOf, seenOf, wholeOf}
-use Rattle.standing.specs.Standing.{inForceOf, askedStandingOf, firstStandingOf, lackingOf, standingsOf, lacksOf, decidedOf, settledOf, settlesOf, failureOf, failedOf}
+use Rattle.standing.specs.Standing.{inForceOf, noServices}
+use Rattle.requests.specs.Requests.{askedStandingOf, firstStandingOf, lackingOf, standingsOf, lacksOf, setupPhaseOf}
+use Rattle.fates.specs.Fates.{decidedOf, settledOf, settlesOf, failureOf, failedOf, alertingFatesOf, connectFatesOf}
 use Rattle.rules.specs.Answer.{numberOf, takenOf}
 use Rattle.asking.specs.Asking.{asksOf, mayAskOf, toRequestOf, toAnswerOf}
-use Rattle.rules.specs.Phase.{requestedOf, connectableOf, talkingOf, activeOf, liveOf}
+use Rattle.phases.specs.Phase.{requestedOf, connectableOf, talkingOf, activeOf, liveOf}
 use Rattle.rules.specs.Serving.{servesTwoOf, servesThreeOf, passageAnswerOf}
 use Rattle.rules.specs.Side.{peerOf}
-use Rattle.call.specs.Answering.{grantsOf, inForceAfterOf, answeredCallOf, goesOnOf, clearsOf, outcomeOf, alertingFatesOf, connectFatesOf, answeredOf, alertingOf, connectOf}
+use Rattle.meters.specs.Meters.{grantsOf, inForceAfterOf, emptyMeters, tickedMetersOf, refillsOf}
+use Rattle.call.specs.Answering.{answeredCallOf, goesOnOf, clearsOf, outcomeOf, answeredOf, alertingOf, connectOf}
 use Rattle.call.specs.Disconnect.{closedCallOf, passedOnOf, disconnectOf, endsOf, releaseCompleteOf}
 use Rattle.call.specs.Facility.{facilityVerdictOf, facilityCallOf, passesFacilityOf, facilityOf}
 use Rattle.call.specs.Information.{metersOf, informationPassageOf, carriedOf, withElementOf, informationOf}
 use Rattle.call.specs.Reply.{barOf, refusedOf, heardOf, replyOf}
-use Rattle.call.specs.Setup.{setupPhaseOf, filledOf, proceedsOf, setupOf}
-use Rattle.call.specs.Sound.{soundOf, freshCall, noRights, noServices, inPhaseOf, emptyMeters}
+use Rattle.call.specs.Setup.{filledOf, proceedsOf, setupOf}
+use Rattle.call.specs.Sound.{soundOf, freshCall, inPhaseOf}
+use Rattle.service.specs.Rights.{noRights}
 use Rattle.call.specs.Step.{notAnEventOf, stepOf}
-use Rattle.call.specs.Tick.{tickedMetersOf, refillsOf, runsOf, passesTickOf, tickOf}
+use Rattle.call.specs.Tick.{runsOf, passesTickOf, tickOf}
 use Rattle.ranges.specs.Ranges.{Live, InRangeCall}
 use Rattle.promises.specs.Numbers.{other}
 use Rattle.promises.specs.Sound.{Offered, runOf}

@@ -10,8 +10,8 @@ use Rattle.service.specs.declared.element.Seen.{Seen}
 use Rattle.service.specs.declared.rights.Rights.{Rights}
 use Rattle.service.specs.declared.rights.Service.{Service}
 use Rattle.standing.specs.declared.Answers.{Answers}
-use Rattle.standing.specs.declared.Fate.{Fate}
-use Rattle.standing.specs.declared.Fates.{Fates}
+use Rattle.fates.specs.declared.Fate.{Fate}
+use Rattle.fates.specs.declared.Fates.{Fates}
 use Rattle.standing.specs.declared.Given.{Given}
 use Rattle.standing.specs.declared.Request.{Request}
 use Rattle.standing.specs.declared.Requests.{Requests}
@@ -19,25 +19,28 @@ use Rattle.standing.specs.declared.Standing.{Standing}
 use Rattle.rules.specs.declared.answer.Answer.{Answer}
 use Rattle.asking.specs.declared.Asking.{Asking}
 use Rattle.asking.specs.declared.What.{What}
-use Rattle.rules.specs.declared.message.Kind.{Kind}
-use Rattle.rules.specs.declared.phase.Phase.{Phase}
+use Rattle.sent.specs.declared.Kind.{Kind}
+use Rattle.phases.specs.declared.Phase.{Phase}
 use Rattle.rules.specs.declared.side.Side.{Side}
 use Rattle.call.specs.declared.Call.{Call}
 use Rattle.call.specs.declared.Event.{Event}
 use Rattle.call.specs.declared.reply.Reply.{Reply}
 use Rattle.service.specs.Element.{wholeOf, seenOf}
 use Rattle.service.specs.Rights.{hasOf}
-use Rattle.standing.specs.Standing.{inForceOf, askedStandingOf, firstStandingOf, standingsOf, decidedOf, settledOf, failedOf, silentAnswers, closingStandingOf}
+use Rattle.standing.specs.Standing.{inForceOf, silentAnswers, noServices}
+use Rattle.requests.specs.Requests.{askedStandingOf, firstStandingOf, standingsOf}
+use Rattle.fates.specs.Fates.{decidedOf, settledOf, failedOf, alertingFatesOf, connectFatesOf}
+use Rattle.closing.specs.Closing.{closingStandingOf, heardAnswersOf}
 use Rattle.rules.specs.Answer.{numberOf, takenOf}
 use Rattle.asking.specs.Asking.{nobodyAsks, asksOf, mayAskOf, toRequestOf, toAnswerOf}
 use Rattle.rules.specs.Side.{peerOf}
-use Rattle.call.specs.Answering.{answeredCallOf, goesOnOf, clearsOf, outcomeOf, alertingFatesOf, connectFatesOf, answeredOf, alertingOf, connectOf}
-use Rattle.call.specs.Disconnect.{heardAnswersOf, closedCallOf, passedOnOf, disconnectOf, endsOf, releaseCompleteOf}
+use Rattle.call.specs.Answering.{answeredCallOf, goesOnOf, clearsOf, outcomeOf, answeredOf, alertingOf, connectOf}
+use Rattle.call.specs.Disconnect.{closedCallOf, passedOnOf, disconnectOf, endsOf, releaseCompleteOf}
 use Rattle.call.specs.Facility.{facilityVerdictOf, facilityCallOf, passesFacilityOf, facilityOf}
 use Rattle.call.specs.Information.{metersOf, informationPassageOf, carriedOf, withElementOf, informationOf}
 use Rattle.call.specs.Reply.{refusedOf, replyOf}
 use Rattle.call.specs.Setup.{filledOf, proceedsOf, setupOf}
-use Rattle.call.specs.Sound.{freshCall, noServices, inPhaseOf}
+use Rattle.call.specs.Sound.{freshCall, inPhaseOf}
 use Rattle.call.specs.Step.{notAnEventOf, stepOf}
 use Rattle.call.specs.Tick.{passesTickOf, tickOf}
 use Rattle.promises.specs.Numbers.{InForce, Has}

@@ -15,32 +15,36 @@ use Rattle.service.specs.declared.element.Seen.{Seen}
 use Rattle.service.specs.declared.rights.Rights.{Rights}
 use Rattle.service.specs.declared.rights.Service.{Service}
 use Rattle.standing.specs.declared.Facilities.{Facilities}
-use Rattle.standing.specs.declared.Fates.{Fates}
+use Rattle.fates.specs.declared.Fates.{Fates}
 use Rattle.standing.specs.declared.Request.{Request}
 use Rattle.standing.specs.declared.Requests.{Requests}
 use Rattle.rules.specs.declared.answer.Answer.{Answer}
-use Rattle.rules.specs.declared.message.Kind.{Kind}
-use Rattle.rules.specs.declared.message.Message.{Message}
-use Rattle.rules.specs.declared.message.Sent.{Sent}
-use Rattle.rules.specs.declared.phase.Phase.{Phase}
+use Rattle.sent.specs.declared.Kind.{Kind}
+use Rattle.sent.specs.declared.Message.{Message}
+use Rattle.sent.specs.declared.Sent.{Sent}
+use Rattle.phases.specs.declared.Phase.{Phase}
 use Rattle.rules.specs.declared.side.Side.{Side}
 use Rattle.call.specs.declared.Call.{Call}
 use Rattle.call.specs.declared.Event.{Event}
 use Rattle.call.specs.declared.reply.Reply.{Reply}
 use Rattle.meter.specs.Meter.{underThreeOf, passageOf}
 use Rattle.service.specs.Element.{noteNumberOf, seenOf, notedOf, goesOutOf}
-use Rattle.standing.specs.Standing.{remainsOf, firstStandingOf, standingsOf, lacksOf, failedOf}
+use Rattle.standing.specs.Standing.{remainsOf}
+use Rattle.requests.specs.Requests.{firstStandingOf, standingsOf, lacksOf, toCallerOf, toCalledOf, setupPhaseOf}
+use Rattle.fates.specs.Fates.{failedOf}
 use Rattle.rules.specs.Answer.{numberOf}
-use Rattle.rules.specs.Message.{sayingOf, bareOf, congestionOf, informsOf, onlyIfOf}
+use Rattle.sent.specs.Message.{sayingOf, bareOf, congestionOf, informsOf, onlyIfOf}
 use Rattle.rules.specs.Serving.{passageAnswerOf, passesOf, marksOf}
 use Rattle.call.specs.Answering.{goesOnOf, clearsOf, answeredCallOf, outcomeOf, answeredOf, alertingOf, connectOf}
 use Rattle.call.specs.Disconnect.{closedCallOf, passedOnOf, disconnectOf, endsOf, releaseCompleteOf}
-use Rattle.call.specs.Facility.{aboutThreeOf, passesFacilityOf, facilityOf}
-use Rattle.call.specs.Information.{meterOf, informationPassageOf, carriedOf, withElementOf, informationOf}
+use Rattle.asking.specs.Asking.{aboutThreeOf}
+use Rattle.call.specs.Facility.{passesFacilityOf, facilityOf}
+use Rattle.meters.specs.Meters.{meterOf, readyOf}
+use Rattle.call.specs.Information.{informationPassageOf, carriedOf, withElementOf, informationOf}
 use Rattle.call.specs.Reply.{refusedOf, replyOf}
-use Rattle.call.specs.Setup.{toCallerOf, toCalledOf, setupPhaseOf, filledOf, setupCarriesOf, proceedsOf, setupOf}
+use Rattle.call.specs.Setup.{filledOf, setupCarriesOf, proceedsOf, setupOf}
 use Rattle.call.specs.Step.{notAnEventOf, stepOf}
-use Rattle.call.specs.Tick.{readyOf, passesTickOf, tickOf}
+use Rattle.call.specs.Tick.{passesTickOf, tickOf}
 use Rattle.promises.specs.Numbers.{WellFormed, InForce, Has, ServesTwo, ServesThree, meterFrom, other}
 use Rattle.promises.specs.Notes.{Bare, limitFor}
 use Rattle.promises.specs.Refusals.{sentTo}

@@ -12,8 +12,8 @@ use Rattle.service.specs.declared.element.Seen.{Seen}
 use Rattle.service.specs.declared.rights.Rights.{Rights}
 use Rattle.service.specs.declared.rights.Service.{Service}
 use Rattle.standing.specs.declared.Answers.{Answers}
-use Rattle.standing.specs.declared.Fate.{Fate}
-use Rattle.standing.specs.declared.Fates.{Fates}
+use Rattle.fates.specs.declared.Fate.{Fate}
+use Rattle.fates.specs.declared.Fates.{Fates}
 use Rattle.standing.specs.declared.Given.{Given}
 use Rattle.standing.specs.declared.Request.{Request}
 use Rattle.standing.specs.declared.Requests.{Requests}
@@ -22,34 +22,37 @@ use Rattle.standing.specs.declared.Standing.{Standing}
 use Rattle.rules.specs.declared.answer.Answer.{Answer}
 use Rattle.asking.specs.declared.Asking.{Asking}
 use Rattle.asking.specs.declared.What.{What}
-use Rattle.rules.specs.declared.message.Kind.{Kind}
-use Rattle.rules.specs.declared.message.Level.{Level}
-use Rattle.rules.specs.declared.message.Sent.{Sent}
-use Rattle.rules.specs.declared.phase.Phase.{Phase}
+use Rattle.sent.specs.declared.Kind.{Kind}
+use Rattle.sent.specs.declared.Level.{Level}
+use Rattle.sent.specs.declared.Sent.{Sent}
+use Rattle.phases.specs.declared.Phase.{Phase}
 use Rattle.rules.specs.declared.side.Side.{Side}
 use Rattle.call.specs.declared.Call.{Call}
 use Rattle.call.specs.declared.Event.{Event}
-use Rattle.call.specs.declared.Meters.{Meters}
+use Rattle.meters.specs.declared.Meters.{Meters}
 use Rattle.call.specs.declared.reply.Reply.{Reply}
 use Rattle.meter.specs.Meter.{tickedOf, afterOf}
 use Rattle.service.specs.Element.{seenOf, wholeOf, goesOutOf}
 use Rattle.service.specs.Rights.{hasOf, rightsFitOf, referenceFitsOf}
-use Rattle.standing.specs.Standing.{inForceOf, askedStandingOf, impliedOf, firstStandingOf, standingsOf, lackingOf, lacksOf, decidedOf, settledOf, settlesOf, failureOf, failedOf}
+use Rattle.standing.specs.Standing.{inForceOf}
+use Rattle.requests.specs.Requests.{askedStandingOf, impliedOf, firstStandingOf, standingsOf, lackingOf, lacksOf, setupPhaseOf, toCallerOf, toCalledOf}
+use Rattle.fates.specs.Fates.{decidedOf, settledOf, settlesOf, failureOf, failedOf, alertingFatesOf, connectFatesOf}
 use Rattle.rules.specs.Answer.{takenOf}
-use Rattle.asking.specs.Asking.{nobodyAsks, asksOf, mayAskOf, toRequestOf, toAnswerOf, facilityAnswerOf, facilityThreeOf}
-use Rattle.rules.specs.Message.{sayingOf, bareOf, congestionOf, informsOf, onlyIfOf}
-use Rattle.rules.specs.Phase.{freshOf, requestedOf, connectableOf, talkingOf, activeOf, upOf, liveOf}
+use Rattle.asking.specs.Asking.{nobodyAsks, asksOf, mayAskOf, toRequestOf, toAnswerOf, facilityAnswerOf, facilityThreeOf, aboutThreeOf}
+use Rattle.sent.specs.Message.{sayingOf, bareOf, congestionOf, informsOf, onlyIfOf}
+use Rattle.phases.specs.Phase.{freshOf, requestedOf, connectableOf, talkingOf, activeOf, upOf, liveOf}
 use Rattle.rules.specs.Serving.{lateOf, servesTwoOf, servesThreeOf, passesOf}
 use Rattle.rules.specs.Side.{peerOf}
-use Rattle.call.specs.Answering.{answeredCallOf, goesOnOf, clearsOf, outcomeOf, alertingFatesOf, connectFatesOf, answeredOf, alertingOf, connectOf}
+use Rattle.call.specs.Answering.{answeredCallOf, goesOnOf, clearsOf, outcomeOf, answeredOf, alertingOf, connectOf}
 use Rattle.call.specs.Disconnect.{closedCallOf, passedOnOf, disconnectOf, endsOf, releaseCompleteOf}
-use Rattle.call.specs.Facility.{facilityVerdictOf, facilityMetersOf, facilityCallOf, aboutThreeOf, passesFacilityOf, facilityOf}
-use Rattle.call.specs.Information.{meterOf, withMeterOf, metersOf, informationPassageOf, carriedOf, withElementOf, informationOf}
+use Rattle.call.specs.Facility.{facilityVerdictOf, facilityCallOf, passesFacilityOf, facilityOf}
+use Rattle.meters.specs.Meters.{facilityMetersOf, meterOf, withMeterOf, emptyMeters, tickedMetersOf, refillsOf, readyOf}
+use Rattle.call.specs.Information.{metersOf, informationPassageOf, carriedOf, withElementOf, informationOf}
 use Rattle.call.specs.Reply.{barOf, refusedOf, heardOf, replyOf}
-use Rattle.call.specs.Setup.{setupPhaseOf, filledOf, toCallerOf, toCalledOf, setupCarriesOf, proceedsOf, setupOf}
-use Rattle.call.specs.Sound.{soundOf, freshCall, inPhaseOf, emptyMeters}
+use Rattle.call.specs.Setup.{filledOf, setupCarriesOf, proceedsOf, setupOf}
+use Rattle.call.specs.Sound.{soundOf, freshCall, inPhaseOf}
 use Rattle.call.specs.Step.{notAnEventOf, stepOf}
-use Rattle.call.specs.Tick.{tickedMetersOf, refillsOf, readyOf, runsOf, passesTickOf, tickOf}
+use Rattle.call.specs.Tick.{runsOf, passesTickOf, tickOf}
 use Rattle.ranges.specs.Ranges.{Live, InRangeCall}
 use Rattle.promises.specs.Sound.{Offered, runOf}
 use Rattle.promises.specs.Handling.{handedIn}

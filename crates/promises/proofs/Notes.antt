@@ -16,15 +16,15 @@ use Rattle.service.specs.declared.element.Seen.{Seen}
 use Rattle.service.specs.declared.rights.Rights.{Rights}
 use Rattle.service.specs.declared.rights.Service.{Service}
 use Rattle.standing.specs.declared.Answers.{Answers}
-use Rattle.standing.specs.declared.Fate.{Fate}
-use Rattle.standing.specs.declared.Fates.{Fates}
+use Rattle.fates.specs.declared.Fate.{Fate}
+use Rattle.fates.specs.declared.Fates.{Fates}
 use Rattle.standing.specs.declared.Given.{Given}
 use Rattle.standing.specs.declared.Request.{Request}
 use Rattle.standing.specs.declared.Requests.{Requests}
 use Rattle.standing.specs.declared.Standing.{Standing}
 use Rattle.rules.specs.declared.answer.Answer.{Answer}
-use Rattle.rules.specs.declared.message.Kind.{Kind}
-use Rattle.rules.specs.declared.phase.Phase.{Phase}
+use Rattle.sent.specs.declared.Kind.{Kind}
+use Rattle.phases.specs.declared.Phase.{Phase}
 use Rattle.rules.specs.declared.side.Side.{Side}
 use Rattle.call.specs.declared.Call.{Call}
 use Rattle.call.specs.declared.Event.{Event}
@@ -32,12 +32,15 @@ use Rattle.call.specs.declared.reply.Reply.{Reply}
 use Rattle.service.specs.Cause.{firstOf}
 use Rattle.service.specs.Element.{noteNumberOf, seenOf, notedOf}
 use Rattle.service.specs.Rights.{hasOf}
-use Rattle.standing.specs.Standing.{inForceOf, awaitsOf, remainsOf, firstStandingOf, standingsOf, lackingOf, lacksOf, decidedOf, settledOf, settlesOf, failureOf, failedOf, silentAnswers, closingStandingOf}
+use Rattle.standing.specs.Standing.{inForceOf, awaitsOf, remainsOf, silentAnswers}
+use Rattle.requests.specs.Requests.{firstStandingOf, standingsOf, lackingOf, lacksOf}
+use Rattle.fates.specs.Fates.{decidedOf, settledOf, settlesOf, failureOf, failedOf, alertingFatesOf, connectFatesOf}
+use Rattle.closing.specs.Closing.{closingStandingOf, heardAnswersOf}
 use Rattle.rules.specs.Answer.{numberOf}
-use Rattle.rules.specs.Phase.{requestedOf}
+use Rattle.phases.specs.Phase.{requestedOf}
 use Rattle.rules.specs.Serving.{passageAnswerOf}
-use Rattle.call.specs.Answering.{answeredCallOf, goesOnOf, clearsOf, outcomeOf, alertingFatesOf, connectFatesOf, answeredOf, alertingOf, connectOf}
-use Rattle.call.specs.Disconnect.{heardAnswersOf, passedOnOf, disconnectOf, endsOf, releaseCompleteOf}
+use Rattle.call.specs.Answering.{answeredCallOf, goesOnOf, clearsOf, outcomeOf, answeredOf, alertingOf, connectOf}
+use Rattle.call.specs.Disconnect.{passedOnOf, disconnectOf, endsOf, releaseCompleteOf}
 use Rattle.call.specs.Facility.{passesFacilityOf, facilityOf}
 use Rattle.call.specs.Information.{informationPassageOf, carriedOf, withElementOf, informationOf}
 use Rattle.call.specs.Reply.{refusedOf, replyOf}

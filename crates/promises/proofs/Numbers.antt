@@ -29,7 +29,8 @@ use Rattle.rules.specs.Side.{peerOf}
 use Rattle.call.specs.Answering.{alertingOf, connectOf}
 use Rattle.call.specs.Disconnect.{passedOnOf, disconnectOf, endsOf, releaseCompleteOf}
 use Rattle.call.specs.Facility.{facilityVerdictOf, passesFacilityOf, facilityOf}
-use Rattle.call.specs.Information.{meterOf, informationPassageOf, carriedOf, withElementOf, informationOf}
+use Rattle.meters.specs.Meters.{meterOf}
+use Rattle.call.specs.Information.{informationPassageOf, carriedOf, withElementOf, informationOf}
 use Rattle.call.specs.Reply.{barOf, refusedOf, heardOf, replyOf}
 use Rattle.call.specs.Setup.{proceedsOf, setupOf}
 use Rattle.call.specs.Sound.{soundOf}

@@ -11,26 +11,28 @@ use Rattle.meter.specs.declared.Passage.{Passage}
 use Rattle.service.specs.declared.cause.Cause.{Cause}
 use Rattle.service.specs.declared.element.Note.{Note}
 use Rattle.service.specs.declared.element.Seen.{Seen}
-use Rattle.standing.specs.declared.Fates.{Fates}
+use Rattle.fates.specs.declared.Fates.{Fates}
 use Rattle.rules.specs.declared.answer.Answer.{Answer}
 use Rattle.asking.specs.declared.What.{What}
-use Rattle.rules.specs.declared.message.Kind.{Kind}
-use Rattle.rules.specs.declared.phase.Phase.{Phase}
+use Rattle.sent.specs.declared.Kind.{Kind}
+use Rattle.phases.specs.declared.Phase.{Phase}
 use Rattle.rules.specs.declared.side.Side.{Side}
 use Rattle.call.specs.declared.Call.{Call}
 use Rattle.call.specs.declared.Event.{Event}
 use Rattle.call.specs.declared.reply.Reply.{Reply}
 use Rattle.meter.specs.Meter.{markedOf, underThreeOf, passageOf, afterOf}
 use Rattle.service.specs.Element.{wholeOf}
-use Rattle.standing.specs.Standing.{failedOf, silence}
+use Rattle.fates.specs.Fates.{failedOf}
+use Rattle.standing.specs.Standing.{silence}
 use Rattle.rules.specs.Answer.{numberOf, takenOf}
-use Rattle.asking.specs.Asking.{toRequestOf, toAnswerOf, notGrantedOf}
-use Rattle.rules.specs.Message.{sayingOf, congestionOf, onlyIfOf}
+use Rattle.asking.specs.Asking.{toRequestOf, toAnswerOf, notGrantedOf, aboutThreeOf}
+use Rattle.sent.specs.Message.{sayingOf, congestionOf, onlyIfOf}
 use Rattle.rules.specs.Serving.{passageAnswerOf, passesOf, marksOf}
 use Rattle.call.specs.Answering.{goesOnOf, clearsOf, outcomeOf, answeredOf, alertingOf, connectOf}
 use Rattle.call.specs.Disconnect.{passedOnOf, disconnectOf, endsOf, releaseCompleteOf}
-use Rattle.call.specs.Facility.{facilityVerdictOf, aboutThreeOf, passesFacilityOf, facilityOf}
-use Rattle.call.specs.Information.{meterOf, metersOf, informationPassageOf, carriedOf, withElementOf, informationOf}
+use Rattle.call.specs.Facility.{facilityVerdictOf, passesFacilityOf, facilityOf}
+use Rattle.meters.specs.Meters.{meterOf}
+use Rattle.call.specs.Information.{metersOf, informationPassageOf, carriedOf, withElementOf, informationOf}
 use Rattle.call.specs.Reply.{refusedOf, replyOf}
 use Rattle.call.specs.Setup.{proceedsOf, setupOf}
 use Rattle.call.specs.Sound.{soundOf}

@@ -8,14 +8,14 @@ use Rattle.meter.specs.declared.Meter.{Meter}
 use Rattle.service.specs.declared.cause.Cause.{Cause}
 use Rattle.standing.specs.declared.Facilities.{Facilities}
 use Rattle.standing.specs.declared.Said.{Said}
-use Rattle.rules.specs.declared.message.Kind.{Kind}
-use Rattle.rules.specs.declared.message.Level.{Level}
-use Rattle.rules.specs.declared.message.Sent.{Sent}
+use Rattle.sent.specs.declared.Kind.{Kind}
+use Rattle.sent.specs.declared.Level.{Level}
+use Rattle.sent.specs.declared.Sent.{Sent}
 use Rattle.rules.specs.declared.side.Side.{Side}
 use Rattle.rules.specs.Answer.{numberOf}
 use Rattle.call.specs.declared.Call.{Call}
 use Rattle.call.specs.declared.Event.{Event}
-use Rattle.call.specs.declared.Meters.{Meters}
+use Rattle.meters.specs.declared.Meters.{Meters}
 use Rattle.call.specs.declared.reply.Reply.{Reply}
 use Rattle.call.specs.Step.{stepOf}
 use Rattle.promises.specs.Numbers.{Informs, Says, ServesThree, meterFrom, other}

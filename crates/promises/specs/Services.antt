@@ -11,7 +11,7 @@ use Rattle.standing.specs.declared.Requests.{Requests}
 use Rattle.standing.specs.declared.Standing.{Standing}
 use Rattle.standing.specs.declared.Standings.{Standings}
 use Rattle.asking.specs.declared.What.{What}
-use Rattle.rules.specs.declared.phase.Phase.{Phase}
+use Rattle.phases.specs.declared.Phase.{Phase}
 use Rattle.rules.specs.declared.side.Side.{Side}
 use Rattle.rules.specs.Answer.{numberOf}
 use Rattle.call.specs.declared.Call.{Call}

@@ -10,31 +10,32 @@ use Rattle.meter.specs.declared.Meter.{Meter}
 use Rattle.service.specs.declared.cause.Cause.{Cause}
 use Rattle.service.specs.declared.element.Seen.{Seen}
 use Rattle.service.specs.declared.rights.Rights.{Rights}
-use Rattle.standing.specs.declared.Fate.{Fate}
-use Rattle.standing.specs.declared.Fates.{Fates}
+use Rattle.fates.specs.declared.Fate.{Fate}
+use Rattle.fates.specs.declared.Fates.{Fates}
 use Rattle.standing.specs.declared.Requests.{Requests}
 use Rattle.rules.specs.declared.answer.Answer.{Answer}
 use Rattle.asking.specs.declared.What.{What}
-use Rattle.rules.specs.declared.message.Kind.{Kind}
-use Rattle.rules.specs.declared.phase.Phase.{Phase}
+use Rattle.sent.specs.declared.Kind.{Kind}
+use Rattle.phases.specs.declared.Phase.{Phase}
 use Rattle.rules.specs.declared.side.Side.{Side}
 use Rattle.call.specs.declared.Call.{Call}
 use Rattle.call.specs.declared.Event.{Event}
-use Rattle.call.specs.declared.Meters.{Meters}
+use Rattle.meters.specs.declared.Meters.{Meters}
 use Rattle.call.specs.declared.reply.Reply.{Reply}
 use Rattle.meter.specs.Meter.{emptyOf, grantedOf, refilledOf, tickedOf, countedOf, spentOf, markedOf, underThreeOf, passageOf, afterOf}
 use Rattle.service.specs.Element.{wholeOf}
-use Rattle.standing.specs.Standing.{failedOf}
+use Rattle.fates.specs.Fates.{failedOf}
 use Rattle.rules.specs.Answer.{takenOf}
-use Rattle.call.specs.Answering.{grantsOf, inForceAfterOf, answeredCallOf, goesOnOf, clearsOf, outcomeOf, answeredOf, alertingOf, connectOf}
+use Rattle.meters.specs.Meters.{grantsOf, inForceAfterOf, facilityMetersOf, meterOf, withMeterOf, emptyMeters, tickedMetersOf, refillsOf}
+use Rattle.call.specs.Answering.{answeredCallOf, goesOnOf, clearsOf, outcomeOf, answeredOf, alertingOf, connectOf}
 use Rattle.call.specs.Disconnect.{closedCallOf, passedOnOf, disconnectOf, endsOf, releaseCompleteOf}
-use Rattle.call.specs.Facility.{facilityMetersOf, facilityCallOf, passesFacilityOf, facilityOf}
-use Rattle.call.specs.Information.{meterOf, withMeterOf, metersOf, informationPassageOf, carriedOf, withElementOf, informationOf}
+use Rattle.call.specs.Facility.{facilityCallOf, passesFacilityOf, facilityOf}
+use Rattle.call.specs.Information.{metersOf, informationPassageOf, carriedOf, withElementOf, informationOf}
 use Rattle.call.specs.Reply.{refusedOf, heardOf, replyOf}
 use Rattle.call.specs.Setup.{filledOf, proceedsOf}
-use Rattle.call.specs.Sound.{inPhaseOf, emptyMeters}
+use Rattle.call.specs.Sound.{inPhaseOf}
 use Rattle.call.specs.Step.{notAnEventOf, stepOf}
-use Rattle.call.specs.Tick.{tickedMetersOf, refillsOf, runsOf, passesTickOf, tickOf}
+use Rattle.call.specs.Tick.{runsOf, passesTickOf, tickOf}
 use Rattle.ranges.specs.Ranges.{ReferenceInRange, RightsInRange, MeterInRange, InRangeCall}
 use Rattle.ranges.proofs.Decide.{never, by-cond}
 

@@ -2,8 +2,8 @@
 use mathlib.Core.Bool.{true}
 use mathlib.Core.Logic.{_⊎_, inl, inr, ⊎-elim}
 use mathlib.Core.Path.{_≡_, refl}
-use Rattle.rules.specs.declared.phase.Phase.{Phase}
-use Rattle.rules.specs.Phase.{freshOf, requestedOf, connectableOf, talkingOf, activeOf, upOf, liveOf}
+use Rattle.phases.specs.declared.Phase.{Phase}
+use Rattle.phases.specs.Phase.{freshOf, requestedOf, connectableOf, talkingOf, activeOf, upOf, liveOf}
 use Rattle.ranges.specs.Ranges.{Up, Live}
 use Rattle.ranges.proofs.Decide.{never, Decides}
 

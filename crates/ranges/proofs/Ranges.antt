@@ -7,7 +7,7 @@ use Rattle.service.specs.declared.rights.Rights.{Rights}
 use Rattle.call.specs.declared.Call.{Call}
 use Rattle.meter.specs.Meter.{meterFitsOf}
 use Rattle.service.specs.Rights.{within, rightsFitOf, referenceFitsOf}
-use Rattle.rules.specs.Phase.{liveOf}
+use Rattle.phases.specs.Phase.{liveOf}
 use Rattle.call.specs.Sound.{fieldsFitOf, soundOf}
 use Rattle.ranges.specs.Ranges.{Live, Within, ReferenceInRange, RightsInRange, MeterInRange, InRangeCall, Unsound}
 use Rattle.ranges.proofs.Decide.{never, Decides, Denies, via, both, le}

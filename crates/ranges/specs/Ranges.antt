@@ -4,7 +4,7 @@ use mathlib.Core.Logic.{_⊎_}
 use mathlib.Core.Path.{_≡_}
 use Rattle.meter.specs.declared.Meter.{Meter}
 use Rattle.service.specs.declared.rights.Rights.{Rights}
-use Rattle.rules.specs.declared.phase.Phase.{Phase}
+use Rattle.phases.specs.declared.Phase.{Phase}
 use Rattle.call.specs.declared.Call.{Call}
 
 -- "Fresh, Requested, Alerting, Active, Clearing, Ended. "Up" means Requested, Alerting or Active." Live: all but Fresh and Ended.

@@ -3,8 +3,8 @@ use Prim.Native.Nat.{ℕ}
 use mathlib.Core.List.{List, [], _∷_, _++_}
 use mathlib.Core.Bool.{Bool, true, false}
 use Rattle.service.specs.Element.{noteNumberOf}
-use Rattle.rules.specs.declared.message.Sent.{Sent}
-use Rattle.rules.specs.Message.{kindNumberOf}
+use Rattle.sent.specs.declared.Sent.{Sent}
+use Rattle.sent.specs.Message.{kindNumberOf}
 use Rattle.body.specs.Kind.{kindOctet}
 use Rattle.text.specs.Decimal.{decimalOf}
 use Rattle.text.specs.Hex.{hexOf}

@@ -1,5 +1,5 @@
 -- The two sides of a call.
-use Rattle.rules.specs.declared.message.Sent.{Sent}
+use Rattle.sent.specs.declared.Sent.{Sent}
 use Rattle.rules.specs.declared.side.Side.{Side}
 
 abbrev pub peerOf : Side → Side

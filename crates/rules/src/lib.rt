@@ -1,6 +1,4 @@
-// The rules that need no call record: phases, sides, answers, messages, and which service serves.
+// The rules that need no call record: sides, answers, and which service serves a message.
 pub mod answer;
-pub mod message;
-pub mod phase;
 pub mod serving;
 pub mod side;

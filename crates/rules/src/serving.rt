@@ -2,9 +2,9 @@
 ghost use mathlib.Core.Path.{_≡_};
 ghost use Rattle.rules.specs.Serving.{lateOf, servesTwoOf, servesThreeOf, passageAnswerOf, passesOf, marksOf};
 use crate::answer::Answer;
-use crate::phase::Phase;
 use crate::side::Side;
 use meter::Passage;
+use phases::Phase;
 
 // Late delivery is for what the calling side sends.
 pub fn late(side: Side, right: bool) -> bool

@@ -1,7 +1,7 @@
 // The two sides of a call.
 ghost use mathlib.Core.Path.{_≡_};
 ghost use Rattle.rules.specs.Side.{pickOf, peerOf};
-use crate::message::Sent;
+use sent::Sent;
 
 pub enum Side {
     Calling,

@@ -15,16 +15,16 @@ use Rattle.component.specs.Facility.{invokeNumber}
 use Rattle.fields.specs.declared.Facilities.{Facilities as LineFacilities}
 use Rattle.fields.specs.declared.Message.{Message as LineMessage}
 use Rattle.fields.specs.declared.Single.{Single}
-use Rattle.fields.specs.declared.kind.Kind.{Kind as LineKind}
+use Rattle.kinds.specs.declared.Kind.{Kind as LineKind}
 use Rattle.elements.specs.Meaning.{andSays, firstThree}
 use Rattle.octets.proofs.Promises.{alike}
 use Rattle.octets.proofs.Range.{range-fits}
 use Rattle.service.specs.declared.cause.Cause.{Cause}
 use Rattle.standing.specs.declared.Facilities.{Facilities}
 use Rattle.standing.specs.declared.Said.{Said}
-use Rattle.rules.specs.declared.message.Kind.{Kind}
-use Rattle.rules.specs.declared.message.Level.{Level}
-use Rattle.rules.specs.declared.message.Message.{Message}
+use Rattle.sent.specs.declared.Kind.{Kind}
+use Rattle.sent.specs.declared.Level.{Level}
+use Rattle.sent.specs.declared.Message.{Message}
 use Rattle.sending.specs.Sending.{kindFor, singleFor, causeFor, componentFor, Host, facilitiesFor, wireOf, Different, Alike, Apart}
 use Rattle.sending.proofs.Sending.{moreIn, Fits, sent-fits, laid-out}
 

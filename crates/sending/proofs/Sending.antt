@@ -26,19 +26,19 @@ use Rattle.service.specs.declared.element.Seen.{Seen}
 use Rattle.service.specs.declared.rights.Rights.{Rights}
 use Rattle.standing.specs.declared.Answers.{Answers}
 use Rattle.standing.specs.declared.Facilities.{Facilities}
-use Rattle.standing.specs.declared.Fate.{Fate}
-use Rattle.standing.specs.declared.Fates.{Fates}
+use Rattle.fates.specs.declared.Fate.{Fate}
+use Rattle.fates.specs.declared.Fates.{Fates}
 use Rattle.standing.specs.declared.Given.{Given}
 use Rattle.standing.specs.declared.Requests.{Requests}
 use Rattle.standing.specs.declared.Said.{Said}
 use Rattle.standing.specs.declared.Standing.{Standing}
 use Rattle.standing.specs.declared.Standings.{Standings}
 use Rattle.rules.specs.declared.answer.Answer.{Answer}
-use Rattle.rules.specs.declared.message.Kind.{Kind}
-use Rattle.rules.specs.declared.message.Level.{Level}
-use Rattle.rules.specs.declared.message.Message.{Message}
-use Rattle.rules.specs.declared.message.Sent.{Sent}
-use Rattle.rules.specs.declared.phase.Phase.{Phase}
+use Rattle.sent.specs.declared.Kind.{Kind}
+use Rattle.sent.specs.declared.Level.{Level}
+use Rattle.sent.specs.declared.Message.{Message}
+use Rattle.sent.specs.declared.Sent.{Sent}
+use Rattle.phases.specs.declared.Phase.{Phase}
 use Rattle.rules.specs.declared.side.Side.{Side}
 use Rattle.call.specs.declared.Call.{Call}
 use Rattle.call.specs.declared.Event.{Event}
@@ -46,18 +46,21 @@ use Rattle.call.specs.declared.reply.Reply.{Reply}
 use Rattle.meter.specs.declared.Passage.{Passage}
 use Rattle.service.specs.Cause.{firstOf}
 use Rattle.service.specs.Element.{wholeOf}
-use Rattle.standing.specs.Standing.{lacksOf, decidedOf, failureOf, failedOf}
-use Rattle.rules.specs.Message.{sayingOf, bareOf, congestionOf, informsOf, onlyIfOf}
+use Rattle.requests.specs.Requests.{lacksOf, toCallerOf, toCalledOf}
+use Rattle.fates.specs.Fates.{decidedOf, failureOf, failedOf, alertingFatesOf, connectFatesOf}
+use Rattle.sent.specs.Message.{sayingOf, bareOf, congestionOf, informsOf, onlyIfOf}
 use Rattle.rules.specs.Serving.{passesOf, marksOf}
-use Rattle.call.specs.Answering.{goesOnOf, clearsOf, outcomeOf, alertingFatesOf, connectFatesOf, answeredOf, alertingOf, connectOf}
+use Rattle.call.specs.Answering.{goesOnOf, clearsOf, outcomeOf, answeredOf, alertingOf, connectOf}
 use Rattle.call.specs.Disconnect.{passedOnOf, disconnectOf, endsOf, releaseCompleteOf}
-use Rattle.call.specs.Facility.{aboutThreeOf, passesFacilityOf, facilityOf}
+use Rattle.asking.specs.Asking.{aboutThreeOf}
+use Rattle.call.specs.Facility.{passesFacilityOf, facilityOf}
 use Rattle.call.specs.Information.{informationPassageOf, carriedOf, withElementOf, informationOf}
 use Rattle.call.specs.Reply.{refusedOf, replyOf}
-use Rattle.call.specs.Setup.{toCallerOf, toCalledOf, proceedsOf, setupOf}
+use Rattle.call.specs.Setup.{proceedsOf, setupOf}
 use Rattle.call.specs.Sound.{soundOf}
 use Rattle.call.specs.Step.{notAnEventOf, stepOf}
-use Rattle.call.specs.Tick.{readyOf, passesTickOf, tickOf}
+use Rattle.meters.specs.Meters.{readyOf}
+use Rattle.call.specs.Tick.{passesTickOf, tickOf}
 use Rattle.ranges.specs.Ranges.{Live}
 use Rattle.promises.specs.Numbers.{WellFormed}
 use Rattle.promises.specs.Notes.{limitFor}

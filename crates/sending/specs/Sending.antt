@@ -16,7 +16,7 @@ use Rattle.fields.specs.declared.Facilities.{Facilities as LineFacilities}
 use Rattle.fields.specs.declared.Message.{Message as LineMessage}
 use Rattle.fields.specs.declared.Single.{Single}
 use Rattle.fields.specs.declared.Width.{Width}
-use Rattle.fields.specs.declared.kind.Kind.{Kind as LineKind}
+use Rattle.kinds.specs.declared.Kind.{Kind as LineKind}
 use Rattle.elements.specs.Meaning.{andSays, firstThree}
 use Rattle.message.specs.Reading.{userUserOf}
 use Rattle.fitting.specs.Writing.{messageOctets}
@@ -24,10 +24,10 @@ use Rattle.octets.specs.Promises.{highest, answerOf, bufferOf, Back}
 use Rattle.service.specs.declared.cause.Cause.{Cause}
 use Rattle.standing.specs.declared.Facilities.{Facilities}
 use Rattle.standing.specs.declared.Said.{Said}
-use Rattle.rules.specs.declared.message.Kind.{Kind}
-use Rattle.rules.specs.declared.message.Level.{Level}
-use Rattle.rules.specs.declared.message.Message.{Message}
-use Rattle.rules.specs.declared.message.Sent.{Sent}
+use Rattle.sent.specs.declared.Kind.{Kind}
+use Rattle.sent.specs.declared.Level.{Level}
+use Rattle.sent.specs.declared.Message.{Message}
+use Rattle.sent.specs.declared.Sent.{Sent}
 use Rattle.rules.specs.declared.side.Side.{Side}
 use Rattle.call.specs.declared.Call.{Call}
 use Rattle.call.specs.declared.Event.{Event}

@@ -1,6 +1,6 @@
 -- Rights of a call.
 use Prim.Native.Nat.{ℕ, _/_, _%_}
-use mathlib.Core.Bool.{Bool, _&&_}
+use mathlib.Core.Bool.{Bool, _&&_, false}
 use lib.Dec.{leb, eqb}
 use Rattle.service.specs.declared.rights.Rights.{Rights}
 use Rattle.service.specs.declared.rights.Service.{Service}
@@ -41,3 +41,6 @@ rightsFitOf r =
 
 unfoldable pub referenceFitsOf : ℕ → Bool
 referenceFitsOf n = within 1 n greatestReference
+
+unfoldable pub noRights : Rights
+noRights = record { services = 0; late = false; leave = false; limit = 0; burst = 0; refill = 0 }

@@ -1,6 +1,6 @@
 // Rights of a call, and the ranges of their fields.
 ghost use mathlib.Core.Path.{_≡_};
-ghost use Rattle.service.specs.Rights.{hasOf, rightsFitOf, referenceFitsOf};
+ghost use Rattle.service.specs.Rights.{hasOf, rightsFitOf, referenceFitsOf, noRights};
 
 pub const GREATEST_SERVICES: u8 = 7;
 
@@ -55,4 +55,17 @@ pub fn reference_fits(n: u16) -> bool
     ensures { λ r. ⌜ r ≡ referenceFitsOf n ⌝ }
 {
     (1 <= n) & (n <= GREATEST_REFERENCE)
+}
+
+pub fn no_rights() -> Rights
+    ensures { λ r. ⌜ r ≡ noRights ⌝ }
+{
+    Rights {
+        services: 0,
+        late: false,
+        leave: false,
+        limit: 0,
+        burst: 0,
+        refill: 0,
+    }
 }

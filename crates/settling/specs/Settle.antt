@@ -4,7 +4,7 @@ use mathlib.Core.Bool.{Bool, true, false, cond}
 use mathlib.Core.List.{List}
 use Rattle.service.specs.declared.element.Note.{Note}
 use Rattle.rules.specs.declared.answer.Answer.{Answer}
-use Rattle.rules.specs.declared.message.Sent.{Sent}
+use Rattle.sent.specs.declared.Sent.{Sent}
 use Rattle.call.specs.declared.Call.{Call}
 use Rattle.call.specs.declared.Event.{Event}
 use Rattle.call.specs.declared.reply.Reply.{Reply}

@@ -7,7 +7,7 @@ use call::reply::Reply;
 use choosing::choice::Verdict;
 use choosing::choice::opens;
 use rules::answer::Answer;
-use rules::message::Sent;
+use sent::Sent;
 use service::element::Note;
 
 // calling and called: what is sent to the calling and to the called user.

@@ -8,7 +8,7 @@ use lib.Dec.{T as Holds}
 use lib.ListN.{length, getD, drop, drop-of-length-le}
 use Rattle.call.specs.declared.Call.{Call}
 use Rattle.call.specs.Sound.{freshCall, soundOf}
-use Rattle.rules.specs.Phase.{liveOf}
+use Rattle.phases.specs.Phase.{liveOf}
 use Rattle.choosing.specs.Look.{liveAs, isAt, laterOf, faultOf}
 use Rattle.table.specs.Table.{findFrom, heldIn, callsSound}
 use Rattle.choosing.specs.declared.look.Found.{Found}

@@ -6,7 +6,7 @@ use lib.Dec.{leb}
 use lib.ListN.{length}
 use Rattle.call.specs.declared.Call.{Call}
 use Rattle.call.specs.Sound.{soundOf}
-use Rattle.rules.specs.Phase.{liveOf}
+use Rattle.phases.specs.Phase.{liveOf}
 use Rattle.choosing.specs.declared.look.Found.{Found}
 use Rattle.choosing.specs.Look.{liveAs, freeOf}
 

@@ -1,5 +1,4 @@
-use Rattle.meter.specs.Meter.{passageOf}
-use Rattle.meter.specs.Meter.{countedOf}
+use Rattle.meter.specs.Meter.{passageOf, countedOf}
 use borrow.Author.Tests.{le-ltb, lt-ltb}
 use borrow.Author.Needs.{needs}
 use Rattle.meter.proofs.passage_of.Statement.{statement}

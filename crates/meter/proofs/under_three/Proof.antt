@@ -1,6 +1,4 @@
-use Rattle.meter.specs.Meter.{underThreeOf}
-use Rattle.meter.specs.Meter.{spentOf}
-use Rattle.meter.specs.Meter.{markedOf}
+use Rattle.meter.specs.Meter.{underThreeOf, spentOf, markedOf}
 use borrow.Author.Tests.{le-ltb, lt-ltb}
 use borrow.Author.Needs.{needs}
 use Rattle.meter.proofs.under_three.Statement.{statement}

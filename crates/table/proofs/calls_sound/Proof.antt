@@ -47,7 +47,7 @@ use denote.Triple.Walked.{Stays, stay-dropped, walkOf, goes-dropped, walked, wal
 use denote.Exit.{yes}
 use Rattle.call.specs.declared.Call.{Call}
 use Rattle.call.specs.Sound.{freshCall, soundOf}
-use Rattle.rules.specs.Phase.{liveOf}
+use Rattle.phases.specs.Phase.{liveOf}
 use Rattle.call.proofs.Call as T
 use Rattle.call.proofs.Call.Laws as T′
 use Rattle.choosing.specs.Look.{laterOf, faultOf}

@@ -7,7 +7,7 @@ use Rattle.writer.proofs.put_header.Tie as tie
 use Rattle.writer.proofs.put_header.Reads as reads
 use Rattle.writer.proofs.put_header.Lts as lts
 use Rattle.room.proofs.write_octets.Reads as write-octets-reads
-use Rattle.fields.proofs.kind.kind_octet.Reads as kind-octet-reads
+use Rattle.kinds.proofs.kind_octet.Reads as kind-octet-reads
 use Rattle.room.proofs.end_of.Reads as end-of-reads
 use Rattle.writer.proofs.top.Reads as top-reads
 

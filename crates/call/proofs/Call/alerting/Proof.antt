@@ -1,5 +1,4 @@
-use Rattle.call.specs.Answering.{alertingOf}
-use Rattle.call.specs.Answering.{answeredOf}
+use Rattle.call.specs.Answering.{alertingOf, answeredOf}
 use borrow.Author.Needs.{needs}
 use Rattle.call.proofs.Call.alerting.Statement.{statement}
 use Rattle.call.proofs.Call.alerting.Tie as tie

@@ -1,5 +1,4 @@
-use Rattle.call.specs.Answering.{connectOf}
-use Rattle.call.specs.Answering.{answeredOf}
+use Rattle.call.specs.Answering.{connectOf, answeredOf}
 use borrow.Author.Needs.{needs}
 use Rattle.call.proofs.Call.connect.Statement.{statement}
 use Rattle.call.proofs.Call.connect.Tie as tie

@@ -1,5 +1,5 @@
 use Rattle.call.specs.Facility.{passesFacilityOf}
-use Rattle.rules.specs.Message.{onlyIfOf}
+use Rattle.sent.specs.Message.{onlyIfOf}
 use borrow.Author.Needs.{needs}
 use Rattle.call.proofs.facility.passes_facility.Statement.{statement}
 use Rattle.call.proofs.facility.passes_facility.Tie as tie

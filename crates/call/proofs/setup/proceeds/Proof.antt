@@ -1,5 +1,4 @@
-use Rattle.call.specs.Setup.{proceedsOf}
-use Rattle.call.specs.Setup.{setupCarriesOf}
+use Rattle.call.specs.Setup.{proceedsOf, setupCarriesOf}
 use borrow.Author.Needs.{needs}
 use Rattle.call.proofs.setup.proceeds.Statement.{statement}
 use Rattle.call.proofs.setup.proceeds.Tie as tie

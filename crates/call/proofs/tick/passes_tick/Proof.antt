@@ -1,5 +1,4 @@
-use Rattle.call.specs.Tick.{passesTickOf}
-use Rattle.call.specs.Tick.{runsOf}
+use Rattle.call.specs.Tick.{passesTickOf, runsOf}
 use borrow.Author.Needs.{needs}
 use Rattle.call.proofs.tick.passes_tick.Statement.{statement}
 use Rattle.call.proofs.tick.passes_tick.Tie as tie

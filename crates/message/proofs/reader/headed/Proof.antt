@@ -6,7 +6,7 @@ use Rattle.message.proofs.reader.headed.Statement.{statement}
 use Rattle.message.proofs.reader.headed.Tie as tie
 use Rattle.message.proofs.reader.headed.Reads as reads
 use Rattle.message.proofs.reader.headed.Lts as lts
-use Rattle.fields.proofs.kind.kind_in.Reads as kind-in-reads
+use Rattle.kinds.proofs.kind_in.Reads as kind-in-reads
 use Rattle.message.proofs.reader.reference.Reads as reference-reads
 use Rattle.elements.proofs.scan.Reads as scan-reads
 use Rattle.message.proofs.reader.width_size.Reads as width-size-reads

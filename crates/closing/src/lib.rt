@@ -1,0 +1,83 @@
+// What the answers in the called side's DISCONNECT still make of the services.
+ghost use mathlib.Core.Path.{_≡_};
+ghost use Rattle.closing.specs.Closing.{rejectionOf, closingSaidOf, closingStandingOf, heardAnswersOf, closingFacilitiesOf};
+use rules::side::Side;
+use standing::Answers;
+use standing::Facilities;
+use standing::Given;
+use standing::Said;
+use standing::Standing;
+use standing::Standings;
+use standing::awaits;
+use standing::no_answers;
+
+// What the called side's DISCONNECT says of a service, where `waits` says whether the caller's request is open.
+fn rejection(waits: bool, g: Given) -> Said
+    ensures { λ r. ⌜ r ≡ rejectionOf waits g ⌝ }
+{
+    match g {
+        Given::Silent => Said::Nothing,
+        Given::Accepted => Said::Nothing,
+        Given::Rejected => { if waits { Said::ByUser } else { Said::Nothing } }
+    }
+}
+
+// The same for service 1, which can still be accepted.
+fn closing_said(s: Standing, g: Given) -> Said
+    ensures { λ r. ⌜ r ≡ closingSaidOf s g ⌝ }
+{
+    match g {
+        Given::Silent => Said::Nothing,
+        Given::Accepted => {
+            if awaits(s) {
+                Said::Accepted
+            } else {
+                Said::Nothing
+            }
+        }
+        Given::Rejected => {
+            if awaits(s) {
+                Said::ByUser
+            } else {
+                Said::Nothing
+            }
+        }
+    }
+}
+
+pub fn closing_standing(s: Standing, g: Given) -> Standing
+    ensures { λ r. ⌜ r ≡ closingStandingOf s g ⌝ }
+{
+    match g {
+        Given::Silent => s,
+        Given::Accepted => { if awaits(s) { Standing::InForce } else { s } }
+        Given::Rejected => s,
+    }
+}
+
+// Only the called side has anything to answer.
+pub fn heard_answers(side: Side, a: Answers) -> Answers
+    ensures { λ r. ⌜ r ≡ heardAnswersOf side a ⌝ }
+{
+    match side {
+        Side::Calling => no_answers(),
+        Side::Called => a,
+    }
+}
+
+// `asks` says whether the caller's own FACILITY request is open.
+pub fn closing_facilities(s: Standings, asks: bool, a: Answers) -> Facilities
+    ensures { λ r. ⌜ r ≡ closingFacilitiesOf s asks a ⌝ }
+{
+    let one = s.one;
+    let two = s.two;
+    let three = s.three;
+    let first = a.one;
+    let second = a.two;
+    let third = a.three;
+    Facilities {
+        one: closing_said(one, first),
+        two: rejection(awaits(two), second),
+        three: rejection(awaits(three) | asks, third),
+    }
+}

@@ -1,0 +1,58 @@
+-- The two meters of a call, and what the events make of them.
+use mathlib.Core.Bool.{Bool, cond, _&&_}
+use Rattle.service.specs.declared.rights.Rights.{Rights}
+use Rattle.meters.specs.declared.Meters.{Meters}
+use Rattle.meter.specs.Meter.{emptyOf, grantedOf, tickedOf}
+use Prim.Native.Nat.{ℕ}
+use Rattle.meter.specs.declared.Meter.{Meter}
+use Rattle.sent.specs.declared.Level.{Level}
+use Rattle.rules.specs.declared.side.Side.{Side}
+use Rattle.sent.specs.Message.{congestionOf, onlyIfOf}
+use Rattle.fates.specs.declared.Fate.{Fate}
+use Rattle.sent.specs.declared.Sent.{Sent}
+use Rattle.asking.specs.declared.What.{What}
+
+unfoldable pub emptyMeters : Meters
+emptyMeters = record { calling = emptyOf; called = emptyOf }
+
+-- "A call record holds two": the meter of what a side sends
+abbrev pub meterOf : Meters → Side → Meter
+meterOf m Side.Calling = m .calling
+meterOf m Side.Called = m .called
+
+abbrev pub withMeterOf : Meters → Side → Meter → Meters
+withMeterOf m Side.Calling n = record { calling = n; called = m .called }
+withMeterOf m Side.Called n = record { calling = m .calling; called = n }
+
+-- "Coming into force, service 3 gives each direction X credits"
+unfoldable pub grantsOf : Meters → ℕ → Meters
+grantsOf m burst = record { calling = grantedOf (m .calling) burst; called = grantedOf (m .called) burst }
+
+abbrev pub inForceAfterOf : Meters → ℕ → Fate → Meters
+inForceAfterOf m burst Fate.Kept = m
+inForceAfterOf m burst Fate.Accepted = grantsOf m burst
+inForceAfterOf m burst Fate.Closed = m
+inForceAfterOf m burst (Fate.Failed n) = m
+
+-- "Accept puts the service in force": so each direction gets X credits
+abbrev pub facilityMetersOf : Meters → ℕ → What → Meters
+facilityMetersOf m burst What.Preferred = m
+facilityMetersOf m burst What.Accept = grantsOf m burst
+facilityMetersOf m burst What.Reject = m
+facilityMetersOf m burst What.Required = m
+
+-- both directions of a call
+unfoldable pub tickedMetersOf : Meters → Rights → Meters
+tickedMetersOf m r =
+    record {
+      calling = tickedOf (m .calling) (r .burst) (r .refill);
+      called = tickedOf (m .called) (r .burst) (r .refill);
+    }
+
+-- "without service 3 in Active it does nothing"
+unfoldable pub refillsOf : Meters → Rights → Bool → Meters
+refillsOf m r runs = cond runs (tickedMetersOf m r) m
+
+-- "A tick with the mark set clears it and sends ready"
+unfoldable pub readyOf : Meter → Bool → Sent
+readyOf m runs = onlyIfOf (runs && m .mark) (congestionOf Level.Ready)

@@ -1,0 +1,117 @@
+// The two meters of a call, and what the events make of them.
+ghost use mathlib.Core.Path.{_≡_};
+ghost use Rattle.meters.specs.Meters.{emptyMeters, meterOf, withMeterOf, grantsOf, inForceAfterOf, facilityMetersOf, tickedMetersOf, refillsOf, readyOf};
+use asking::What;
+use fates::Fate;
+use meter::Meter;
+use meter::empty;
+use meter::granted;
+use meter::ticked;
+use rules::side::Side;
+use sent::Level;
+use sent::Sent;
+use sent::congestion;
+use sent::only_if;
+use service::rights::Rights;
+
+// The meter of what each side sends.
+pub struct Meters {
+    pub calling: Meter,
+    pub called: Meter,
+}
+
+pub fn empty_meters() -> Meters
+    ensures { λ r. ⌜ r ≡ emptyMeters ⌝ }
+{
+    Meters {
+        calling: empty(),
+        called: empty(),
+    }
+}
+
+// The meter of what a side sends.
+pub fn meter_of(m: Meters, side: Side) -> Meter
+    ensures { λ r. ⌜ r ≡ meterOf m side ⌝ }
+{
+    match side {
+        Side::Calling => m.calling,
+        Side::Called => m.called,
+    }
+}
+
+// The meters with another one for what a side sends.
+pub fn with_meter(m: Meters, side: Side, n: Meter) -> Meters
+    ensures { λ r. ⌜ r ≡ withMeterOf m side n ⌝ }
+{
+    let calling = m.calling;
+    let called = m.called;
+    match side {
+        Side::Calling => Meters {
+            calling: n,
+            called: called,
+        },
+        Side::Called => Meters {
+            calling: calling,
+            called: n,
+        },
+    }
+}
+
+// Service 3 comes into force.
+fn grants(m: Meters, burst: u16) -> Meters
+    ensures { λ r. ⌜ r ≡ grantsOf m burst ⌝ }
+{
+    let calling = m.calling;
+    let called = m.called;
+    Meters {
+        calling: granted(calling, burst),
+        called: granted(called, burst),
+    }
+}
+
+pub fn in_force_after(m: Meters, burst: u16, three: Fate) -> Meters
+    ensures { λ r. ⌜ r ≡ inForceAfterOf m burst three ⌝ }
+{
+    match three {
+        Fate::Kept => m,
+        Fate::Accepted => grants(m, burst),
+        Fate::Closed => m,
+        Fate::Failed(_) => m,
+    }
+}
+
+pub fn facility_meters(m: Meters, burst: u16, what: What) -> Meters
+    ensures { λ r. ⌜ r ≡ facilityMetersOf m burst what ⌝ }
+{
+    match what {
+        What::Preferred => m,
+        What::Accept => grants(m, burst),
+        What::Reject => m,
+        What::Required => m,
+    }
+}
+
+fn ticked_meters(m: Meters, r: Rights) -> Meters
+    ensures { λ n. ⌜ n ≡ tickedMetersOf m r ⌝ }
+{
+    let calling = m.calling;
+    let called = m.called;
+    Meters {
+        calling: ticked(calling, r.burst, r.refill),
+        called: ticked(called, r.burst, r.refill),
+    }
+}
+
+// `runs` says whether service 3 is in force in Active: otherwise a tick does nothing.
+pub fn refills(m: Meters, r: Rights, runs: bool) -> Meters
+    ensures { λ n. ⌜ n ≡ refillsOf m r runs ⌝ }
+{
+    if runs { ticked_meters(m, r) } else { m }
+}
+
+// The sender of a direction whose mark is set is told that it is ready.
+pub fn ready(m: Meter, runs: bool) -> Sent
+    ensures { λ s. ⌜ s ≡ readyOf m runs ⌝ }
+{
+    only_if(runs & m.mark, congestion(Level::Ready))
+}

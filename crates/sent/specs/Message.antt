@@ -1,0 +1,60 @@
+-- A message to one user: "At most one message goes to each user per event."
+use Prim.Native.Nat.{ℕ}
+use mathlib.Core.Bool.{Bool, true, false, cond}
+use Rattle.service.specs.declared.cause.Cause.{Cause}
+use Rattle.standing.specs.declared.Facilities.{Facilities}
+use Rattle.sent.specs.declared.Kind.{Kind}
+use Rattle.sent.specs.declared.Level.{Level}
+use Rattle.sent.specs.declared.Sent.{Sent}
+use Rattle.standing.specs.Standing.{silence}
+use Rattle.service.specs.Cause.{discarded}
+
+-- "Nine types, hexadecimal: ALERTING 01, CALL PROCEEDING 02, SETUP 05, CONNECT 07, USER INFORMATION 20, DISCONNECT 45, RELEASE COMPLETE 5A,
+-- FACILITY 62, CONGESTION CONTROL 79."
+abbrev pub kindNumberOf : Kind → ℕ
+kindNumberOf Kind.Alerting = 1
+kindNumberOf Kind.CallProceeding = 2
+kindNumberOf Kind.Setup = 5
+kindNumberOf Kind.Connect = 7
+kindNumberOf Kind.UserInformation = 32
+kindNumberOf Kind.Disconnect = 69
+kindNumberOf Kind.ReleaseComplete = 90
+kindNumberOf Kind.Facility = 98
+kindNumberOf Kind.CongestionControl = 121
+
+-- a message with what it says of the services, and whether the event's element goes out in it
+unfoldable pub sayingOf : Kind → Cause → Facilities → Bool → Sent
+sayingOf kind cause said element =
+    Sent.Present (record { kind = kind; cause = cause; level = Level.Absent; said = said; more = false; element = element })
+
+unfoldable pub bareOf : Kind → Cause → Sent
+bareOf kind cause = sayingOf kind cause silence false
+
+-- "sends not ready, cause 43, to its sender"; "sends ready, with cause 43 too (house)"
+unfoldable pub congestionOf : Level → Sent
+congestionOf level =
+    Sent.Present
+    (record {
+      kind = Kind.CongestionControl;
+      cause = Cause.Value discarded;
+      level = level;
+      said = silence;
+      more = false;
+      element = false;
+    })
+
+-- "More data goes on unchanged."
+unfoldable pub informsOf : Bool → Sent
+informsOf more =
+    Sent.Present
+    (record {
+      kind = Kind.UserInformation;
+      cause = Cause.Absent;
+      level = Level.Absent;
+      said = silence;
+      more = more;
+      element = true;
+    })
+
+unfoldable pub onlyIfOf : Bool → Sent → Sent
+onlyIfOf b s = cond b s Sent.Absent

@@ -1,0 +1,111 @@
+// A message to one user.
+ghost use mathlib.Core.Path.{_≡_};
+ghost use Rattle.sent.specs.Message.{kindNumberOf, sayingOf, bareOf, congestionOf, informsOf, onlyIfOf};
+use service::cause::Cause;
+use service::cause::DISCARDED;
+use standing::Facilities;
+use standing::say_nothing;
+
+pub enum Kind {
+    Alerting,
+    CallProceeding,
+    Setup,
+    Connect,
+    UserInformation,
+    Disconnect,
+    ReleaseComplete,
+    Facility,
+    CongestionControl,
+}
+
+pub enum Level {
+    Absent,
+    Ready,
+    NotReady,
+}
+
+// element: whether the event's element goes out in it.
+pub struct Message {
+    pub kind: Kind,
+    pub cause: Cause,
+    pub level: Level,
+    pub said: Facilities,
+    pub more: bool,
+    pub element: bool,
+}
+
+pub enum Sent {
+    Absent,
+    Present(Message),
+}
+
+// The octet of a message type.
+pub fn kind_number(k: Kind) -> u8
+    ensures { λ r. ⌜ r ≡ kindNumberOf k ⌝ }
+{
+    match k {
+        Kind::Alerting => 0x01,
+        Kind::CallProceeding => 0x02,
+        Kind::Setup => 0x05,
+        Kind::Connect => 0x07,
+        Kind::UserInformation => 0x20,
+        Kind::Disconnect => 0x45,
+        Kind::ReleaseComplete => 0x5A,
+        Kind::Facility => 0x62,
+        Kind::CongestionControl => 0x79,
+    }
+}
+
+pub fn saying(kind: Kind, cause: Cause, said: Facilities, element: bool) -> Sent
+    ensures { λ r. ⌜ r ≡ sayingOf kind cause said element ⌝ }
+{
+    Sent::Present(Message {
+        kind: kind,
+        cause: cause,
+        level: Level::Absent,
+        said: said,
+        more: false,
+        element: element,
+    })
+}
+
+// A message that says nothing of any service and holds no element.
+pub fn bare(kind: Kind, cause: Cause) -> Sent
+    ensures { λ r. ⌜ r ≡ bareOf kind cause ⌝ }
+{
+    saying(kind, cause, say_nothing(), false)
+}
+
+// CONGESTION CONTROL, ready or not ready: both with the same cause.
+pub fn congestion(level: Level) -> Sent
+    ensures { λ r. ⌜ r ≡ congestionOf level ⌝ }
+{
+    Sent::Present(Message {
+        kind: Kind::CongestionControl,
+        cause: Cause::Value(DISCARDED),
+        level: level,
+        said: say_nothing(),
+        more: false,
+        element: false,
+    })
+}
+
+// USER INFORMATION with the event's element.
+pub fn informs(more: bool) -> Sent
+    ensures { λ r. ⌜ r ≡ informsOf more ⌝ }
+{
+    Sent::Present(Message {
+        kind: Kind::UserInformation,
+        cause: Cause::Absent,
+        level: Level::Absent,
+        said: say_nothing(),
+        more: more,
+        element: true,
+    })
+}
+
+pub fn only_if(b: bool, s: Sent) -> Sent
+    ensures { λ r. ⌜ r ≡ onlyIfOf b s ⌝ }
+{
+    if b { s } else { Sent::Absent }
+}
