@@ -11,13 +11,13 @@ use Rattle.meter.specs.Meter.{emptyOf, meterFitsOf, passageOf}
 use Rattle.service.specs.Element.{wellFormedOf, seenOf, goesOutOf}
 use Rattle.service.specs.Rights.{rightsFitOf, referenceFitsOf, noRights}
 use Rattle.standing.specs.Standing.{remainsOf, noServices}
-use Rattle.requests.specs.Requests.{firstStandingOf, standingsOf, lacksOf, setupPhaseOf}
+use Rattle.requests.specs.Requests.{firstStandingOf, standingsOf, lacksOf, setupPhaseOf, setupCarriesOf}
 use Rattle.fates.specs.Fates.{failedOf, settlesOf, alertingFatesOf}
 use Rattle.asking.specs.Asking.{nobodyAsks}
 use Rattle.meters.specs.Meters.{emptyMeters, refillsOf}
 use Rattle.call.specs.Sound.{freshCall, fieldsFitOf, soundOf, inPhaseOf}
 use Rattle.call.specs.Reply.{barOf, refusedOf, heardOf, replyOf}
-use Rattle.call.specs.Setup.{filledOf, setupCarriesOf, proceedsOf, setupOf}
+use Rattle.call.specs.Setup.{filledOf, proceedsOf, setupOf}
 use Rattle.call.specs.Answering.{answeredCallOf, goesOnOf, clearsOf, answeredOf, alertingOf}
 use Rattle.call.specs.Information.{metersOf, informationPassageOf, carriedOf, withElementOf, informationOf}
 use Rattle.call.specs.Disconnect.{endsOf, releaseCompleteOf}

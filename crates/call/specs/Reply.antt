@@ -7,13 +7,12 @@ use Rattle.rules.specs.declared.side.Side.{Side}
 use Rattle.call.specs.declared.Call.{Call}
 use Rattle.call.specs.declared.reply.Reply.{Reply}
 use Rattle.rules.specs.Side.{pickOf}
-use Rattle.rules.specs.Answer.{takenOf}
+use Rattle.rules.specs.Answer.{takenOf, firstBar}
 use Rattle.call.specs.Sound.{soundOf}
 
--- "25 comes first of 11 to 25; .. then the call 12, 11, 24". allowed: the phase allows the event. ranged: reference, rights and cause are in range.
+-- what bars an event from being heard, if anything does
 unfoldable pub barOf : Call → Bool → Bool → Answer
-barOf c allowed ranged =
-    cond (soundOf c) (cond allowed (cond ranged Answer.Taken Answer.OutOfRange) Answer.OutOfPhase) Answer.Unsound
+barOf c allowed ranged = firstBar (soundOf c) allowed ranged
 
 -- "11 to 25 change no call, meter or table and send nothing"
 unfoldable pub refusedOf : Call → Answer → Note → Reply

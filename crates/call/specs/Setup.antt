@@ -1,7 +1,7 @@
 -- SETUP.
 use Prim.Native.Nat.{ℕ}
 use mathlib.Core.List.{List}
-use mathlib.Core.Bool.{Bool, _&&_, not}
+use mathlib.Core.Bool.{_&&_}
 use Rattle.service.specs.declared.element.Seen.{Seen}
 use Rattle.service.specs.declared.rights.Rights.{Rights}
 use Rattle.standing.specs.declared.Requests.{Requests}
@@ -11,8 +11,7 @@ use Rattle.phases.specs.declared.Phase.{Phase}
 use Rattle.call.specs.declared.Call.{Call}
 use Rattle.call.specs.declared.reply.Reply.{Reply}
 use Rattle.service.specs.Rights.{rightsFitOf, referenceFitsOf}
-use Rattle.standing.specs.Standing.{remainsOf}
-use Rattle.requests.specs.Requests.{standingsOf, lacksOf, passedRequestsOf, networkRefusalsOf, setupPhaseOf, toCallerOf, toCalledOf}
+use Rattle.requests.specs.Requests.{standingsOf, lacksOf, passedRequestsOf, networkRefusalsOf, setupPhaseOf, toCallerOf, toCalledOf, setupCarriesOf}
 use Rattle.service.specs.Element.{seenOf, notedOf, goesOutOf}
 use Rattle.asking.specs.Asking.{nobodyAsks}
 use Rattle.phases.specs.Phase.{freshOf}
@@ -30,10 +29,6 @@ filledOf reference rights phase standings =
       asking = nobodyAsks;
       meters = emptyMeters;
     }
-
--- "the element (if service 1 remains)", and the message goes on
-unfoldable pub setupCarriesOf : Rights → Requests → Seen → Bool
-setupCarriesOf rights q seen = not (lacksOf rights q) && remainsOf (standingsOf rights q seen .one)
 
 -- a SETUP that is taken: the new record and the two messages
 unfoldable pub proceedsOf : ℕ → Rights → Requests → Seen → Reply

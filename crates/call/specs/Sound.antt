@@ -1,12 +1,11 @@
 -- A fresh record, and number 25 for one record.
-use mathlib.Core.Bool.{Bool, true, cond, _&&_}
+use mathlib.Core.Bool.{Bool, true, cond}
 use Rattle.phases.specs.declared.Phase.{Phase}
 use Rattle.call.specs.declared.Call.{Call}
-use Rattle.meter.specs.Meter.{meterFitsOf}
-use Rattle.service.specs.Rights.{rightsFitOf, referenceFitsOf, noRights}
+use Rattle.service.specs.Rights.{noRights}
 use Rattle.asking.specs.Asking.{nobodyAsks}
 use Rattle.phases.specs.Phase.{liveOf}
-use Rattle.meters.specs.Meters.{emptyMeters}
+use Rattle.meters.specs.Meters.{emptyMeters, rangesFit}
 use Rattle.standing.specs.Standing.{noServices}
 
 -- a record before its SETUP
@@ -21,11 +20,9 @@ freshCall =
       meters = emptyMeters;
     }
 
--- "a live record or meter with a field out of range, credit over X or count over 2"
+-- what a live record holds is in range
 unfoldable pub fieldsFitOf : Call → Bool
-fieldsFitOf c =
-    ((referenceFitsOf (c .reference) && rightsFitOf (c .rights)) && meterFitsOf (c .meters .calling) (c .rights .burst))
-    && meterFitsOf (c .meters .called) (c .rights .burst)
+fieldsFitOf c = rangesFit (c .reference) (c .rights) (c .meters)
 
 -- a record that is not live is sound whatever it holds
 unfoldable pub soundOf : Call → Bool

@@ -3,6 +3,7 @@ ghost use mathlib.Core.Path.{_≡_};
 ghost use Rattle.call.specs.Reply.{barOf, refusedOf, heardOf, replyOf};
 use crate::Call;
 use rules::answer::Answer;
+use rules::answer::first_bar;
 use rules::answer::taken;
 use rules::side::Side;
 use rules::side::pick;
@@ -18,23 +19,11 @@ pub struct Reply {
     pub called: Sent,
 }
 
-// The first of 25, 11 and 24 that applies.
+// What bars an event from being heard, if anything does.
 pub fn barred(c: Call, allowed: bool, ranged: bool) -> Answer
     ensures { λ r. ⌜ r ≡ barOf c allowed ranged ⌝ }
 {
-    if c.sound() {
-        if allowed {
-            if ranged {
-                Answer::Taken
-            } else {
-                Answer::OutOfRange
-            }
-        } else {
-            Answer::OutOfPhase
-        }
-    } else {
-        Answer::Unsound
-    }
+    first_bar(c.sound(), allowed, ranged)
 }
 
 // A refusal leaves the record as it was and sends nothing.

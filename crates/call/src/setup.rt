@@ -9,6 +9,7 @@ use asking::nobody_asks;
 use meters::empty_meters;
 use phases::Phase;
 use phases::is_fresh;
+use requests::carries;
 use requests::lacks;
 use requests::network_refusals;
 use requests::passed_requests;
@@ -26,7 +27,6 @@ use service::rights::reference_fits;
 use service::rights::rights_fit;
 use standing::Requests;
 use standing::Standings;
-use standing::remains;
 
 // The record of a new call, whole.
 fn filled(reference: u16, rights: Rights, phase: Phase, standings: Standings) -> Call
@@ -48,7 +48,7 @@ fn proceeds(reference: u16, rights: Rights, requests: Requests, seen: Seen) -> R
     let lacking = lacks(rights, requests);
     let standings = standings_of(rights, requests, seen);
     let one = standings.one;
-    let carried = !lacking & remains(one);
+    let carried = carries(lacking, one);
     let refusals = network_refusals(rights, requests);
     let passed = passed_requests(rights, requests);
     Reply {

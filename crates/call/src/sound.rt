@@ -4,13 +4,11 @@ ghost use Rattle.call.specs.Sound.{fieldsFitOf, inPhaseOf, freshCall, so
 ghost use Rattle.phases.specs.Phase.{liveOf};
 use crate::Call;
 use asking::nobody_asks;
-use meter::meter_fits;
 use meters::empty_meters;
+use meters::ranges_fit;
 use phases::Phase;
 use phases::is_live;
 use service::rights::no_rights;
-use service::rights::reference_fits;
-use service::rights::rights_fit;
 use standing::no_services;
 
 fn fields_fit(c: Call) -> bool
@@ -18,12 +16,7 @@ fn fields_fit(c: Call) -> bool
 {
     let rights = c.rights;
     let meters = c.meters;
-    let calling = meters.calling;
-    let called = meters.called;
-    reference_fits(c.reference)
-        & rights_fit(rights)
-        & meter_fits(calling, rights.burst)
-        & meter_fits(called, rights.burst)
+    ranges_fit(c.reference, rights, meters)
 }
 
 // The record keeps what it had: only its phase changes.

@@ -30,7 +30,8 @@ use Rattle.octets.specs.Promises.{CauseIn, FacilitiesIn}
 use Rattle.octets.proofs.Promises.{element}
 use Rattle.text.specs.Decimal.{decimalOf}
 use Rattle.text.proofs.Digits.{at-most}
-use Rattle.facilities.specs.Column.{column, componentText, facilityColumn}
+use Rattle.text.specs.Columns.{column}
+use Rattle.facilities.specs.Column.{componentText, facilityColumn}
 use Rattle.line.specs.Columns.{causeColumn, singleColumn, elementColumn, headColumns, takenColumns, columnsOf}
 use Rattle.line.specs.Line.{lineWith, lineOf}
 use Rattle.line.proofs.Words.{taken-text, refused-text}

@@ -13,7 +13,8 @@ use Rattle.room.specs.Room.{placed, Written}
 use Rattle.room.proofs.Pieces.{length-placed, placed-then}
 use Rattle.text.proofs.Pieced.{took, refused, no-piece}
 use Rattle.line.specs.Line.{lineOf}
-use Rattle.capture.specs.Frames.{Frame, laterOf, sizeOf, framesOf, lineAt, linesOf, fitting, spanOf, workedOff, Digested}
+use Rattle.capture.specs.Frames.{Frame, sizeOf, framesOf, lineAt, linesOf, fitting, spanOf, workedOff, Digested}
+use Rattle.margins.specs.Margins.{laterOf}
 use Rattle.capture.proofs.Framing.{firstOf, frames-turn, frames-end, later-later, later-none}
 
 -- what is still to come from place i of the piece on, with k octets of lines written

@@ -7,7 +7,8 @@ use native.Mathlib.Omega.{arith}
 use borrow.Author.Tests.{le-leb, lt-leb}
 use lib.Dec.{leb}
 use lib.ListN.{length, take, drop, length-drop}
-use Rattle.capture.specs.Frames.{Frame, laterOf, sizeOf, framesIn, framesOf}
+use Rattle.capture.specs.Frames.{Frame, sizeOf, framesIn, framesOf}
+use Rattle.margins.specs.Margins.{laterOf}
 
 pub by-cond : {A : Type 0} (P : A → Type 0) (a b : A) (t : Bool) → (t ≡ true → P a) → (t ≡ false → P b) → P (cond t a b)
 by-cond P a b true h k = h refl

@@ -7,7 +7,8 @@ use borrow.Author.Tests.{leb-true}
 use lib.Dec.{leb}
 use lib.ListN.{length, drop, length-append, length-drop, List·getD-append}
 use lib.Seq.{length-take-le, drop-drop, take-append-le, drop-append-le}
-use Rattle.capture.specs.Frames.{Frame, laterOf, sizeOf, framesIn, framesOf, lineAt, fitting, spanOf}
+use Rattle.capture.specs.Frames.{Frame, sizeOf, framesIn, framesOf, lineAt, fitting, spanOf}
+use Rattle.margins.specs.Margins.{laterOf}
 use Rattle.capture.specs.Promises.{Offset}
 use Rattle.capture.proofs.Framing.{by-cond, firstOf, frames-turn, later-later, later-none}
 

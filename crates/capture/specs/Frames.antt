@@ -1,22 +1,19 @@
 -- A capture: messages end to end, each after its length in two octets, high octet first.
-use Prim.Native.Nat.{ℕ, zero, suc, _+_, _-_, _*_, min}
+use Prim.Native.Nat.{ℕ, zero, suc, _+_, _-_, _*_}
 use mathlib.Core.List.{List, [], _∷_, _++_}
 use mathlib.Core.Bool.{cond}
 use mathlib.Core.Path.{_≡_}
 use lib.ListN.{length, getD, take, drop}
-use lib.Dec.{leb, eqb}
+use lib.Dec.{leb}
 use Rattle.room.specs.Room.{placed}
 use Rattle.capture.specs.declared.frames.Done.{Done}
 use Rattle.line.specs.Line.{lineOf}
+use Rattle.margins.specs.Margins.{laterOf, firstLine, lastLine}
 
 -- a message, and the offset of its first octet
 pub record Frame : Type 0 where
   pub at : ℕ
   pub octets : List ℕ
-
--- An offset is a number of 64 bits. One that would be larger stays at the largest: the lines go on, and say so.
-unfoldable pub laterOf : ℕ → ℕ → ℕ
-laterOf offset n = min (offset + n) 18446744073709551615
 
 -- the length that a capture begins with
 unfoldable pub sizeOf : List ℕ → ℕ
@@ -61,23 +58,6 @@ pub record Digested (c : List ℕ) (offset : ℕ) (l l' : List ℕ) (r : Done) :
   pub used : r .used ≡ spanOf (workedOff c offset l)
   pub wrote : r .wrote ≡ length (linesOf (workedOff c offset l))
   pub buffer : l' ≡ placed 0 (linesOf (workedOff c offset l)) l
-
--- First line exactly `at number type flag ref cause single facility element`
-abbrev pub firstLine : List ℕ
-firstLine =
-    97 ∷ 116 ∷ 32
-    ∷ 110 ∷ 117 ∷ 109 ∷ 98 ∷ 101 ∷ 114 ∷ 32
-    ∷ 116 ∷ 121 ∷ 112 ∷ 101 ∷ 32
-    ∷ 102 ∷ 108 ∷ 97 ∷ 103 ∷ 32
-    ∷ 114 ∷ 101 ∷ 102 ∷ 32
-    ∷ 99 ∷ 97 ∷ 117 ∷ 115 ∷ 101 ∷ 32
-    ∷ 115 ∷ 105 ∷ 110 ∷ 103 ∷ 108 ∷ 101 ∷ 32
-    ∷ 102 ∷ 97 ∷ 99 ∷ 105 ∷ 108 ∷ 105 ∷ 116 ∷ 121 ∷ 32
-    ∷ 101 ∷ 108 ∷ 101 ∷ 109 ∷ 101 ∷ 110 ∷ 116 ∷ 10 ∷ []
-
--- A capture that ends inside a length or a message prints `cut` as its last line: so many octets are left
-unfoldable pub lastLine : ℕ → List ℕ
-lastLine left = cond (eqb left 0) [] (99 ∷ 117 ∷ 116 ∷ 10 ∷ [])
 
 -- what is printed of a whole capture; An empty capture prints the first line alone.
 unfoldable pub printedOf : List ℕ → List ℕ

@@ -4,7 +4,8 @@ use mathlib.Core.List.{List, [], _∷_, _++_}
 use mathlib.Core.Path.{_≡_}
 use lib.ListN.{length, getD, drop}
 use Rattle.line.specs.Line.{lineOf}
-use Rattle.capture.specs.Frames.{Frame, laterOf, framesOf, linesOf, spanOf, workedOff, firstLine, lastLine, printedOf}
+use Rattle.capture.specs.Frames.{Frame, framesOf, linesOf, spanOf, workedOff, printedOf}
+use Rattle.margins.specs.Margins.{laterOf, firstLine, lastLine}
 
 -- an offset of 64 bits
 abbrev pub Offset : ℕ → Type 0

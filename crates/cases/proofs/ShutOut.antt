@@ -17,14 +17,14 @@ use Rattle.meter.specs.Meter.{emptyOf, meterFitsOf, grantedOf, countedOf, spent
 use Rattle.service.specs.Element.{wellFormedOf, seenOf, goesOutOf}
 use Rattle.service.specs.Rights.{rightsFitOf, referenceFitsOf, noRights}
 use Rattle.standing.specs.Standing.{remainsOf, silence, silentAnswers, noServices}
-use Rattle.requests.specs.Requests.{firstStandingOf, standingsOf, lacksOf, passedRequestsOf, networkRefusalsOf, setupPhaseOf, toCallerOf, toCalledOf}
+use Rattle.requests.specs.Requests.{firstStandingOf, standingsOf, lacksOf, passedRequestsOf, networkRefusalsOf, setupPhaseOf, toCallerOf, toCalledOf, setupCarriesOf}
 use Rattle.fates.specs.Fates.{failedOf, settlesOf, tellsOf, declinesOf, alertingFatesOf, connectFatesOf}
 use Rattle.asking.specs.Asking.{nobodyAsks, toRequestOf, toAnswerOf, aboutThreeOf}
 use Rattle.sent.specs.Message.{sayingOf, bareOf, congestionOf, informsOf, onlyIfOf}
 use Rattle.meters.specs.Meters.{emptyMeters, grantsOf, tickedMetersOf, refillsOf, readyOf}
 use Rattle.call.specs.Sound.{freshCall, fieldsFitOf, soundOf, inPhaseOf}
 use Rattle.call.specs.Reply.{barOf, refusedOf, heardOf, replyOf}
-use Rattle.call.specs.Setup.{filledOf, setupCarriesOf, proceedsOf, setupOf}
+use Rattle.call.specs.Setup.{filledOf, proceedsOf, setupOf}
 use Rattle.call.specs.Answering.{answeredCallOf, goesOnOf, clearsOf, answeredOf, alertingOf, connectOf}
 use Rattle.call.specs.Information.{metersOf, informationPassageOf, carriedOf, withElementOf, informationOf}
 use Rattle.closing.specs.Closing.{closingFacilitiesOf}

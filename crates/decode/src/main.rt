@@ -2,11 +2,11 @@
 // says is computed in `capture`; here octets are only read and written.
 use capture::frames::Done;
 use capture::frames::digest;
-use capture::frames::later;
-use capture::frames::write_first;
-use capture::frames::write_last;
 use libc::STDIN_FILENO;
 use libc::STDOUT_FILENO;
+use margins::later;
+use margins::write_first;
+use margins::write_last;
 use room::end_of;
 use room::keep;
 

@@ -16,7 +16,8 @@ use Rattle.fields.specs.declared.Place.{Place}
 use Rattle.found.specs.declared.Seen.{Seen}
 use Rattle.found.specs.declared.Found.{Found}
 use Rattle.elements.specs.Elements.{Element}
-use Rattle.found.specs.Found.{singleOf, orSingle, noteCause, oneMore, noteFacility, notePlace}
+use Rattle.single.specs.Single.{singleOf, orSingle}
+use Rattle.found.specs.Found.{noteCause, oneMore, noteFacility, notePlace}
 use Rattle.elements.specs.Meaning.{firstSingle, firstCause, firstPlace, andSays, components, firstThree}
 use Rattle.elements.specs.Scan.{causeThen, listed, placeThen, readingFrom, Adds}
 

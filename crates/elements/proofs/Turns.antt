@@ -18,7 +18,8 @@ use Rattle.elements.specs.declared.Fault.{Fault}
 use Rattle.elements.specs.declared.Read.{Read}
 use Rattle.elements.specs.declared.End.{End}
 use Rattle.elements.specs.Elements.{Element, Split, cut, whole, then, elements, counted, between, Ended, Ends}
-use Rattle.found.specs.Found.{orSingle, causeSeen}
+use Rattle.single.specs.Single.{orSingle}
+use Rattle.found.specs.Found.{causeSeen}
 use Rattle.elements.specs.Meaning.{firstSingle, firstCause, firstPlace, components, firstThree, readingOf, takenOf}
 use Rattle.elements.specs.Scan.{causeThen, listed, placeThen, readingFrom, Adds, takenWith}
 use Rattle.elements.proofs.Splitting.{none-left}

@@ -14,7 +14,7 @@ use Rattle.fields.specs.declared.Single.{Single}
 use Rattle.fields.specs.declared.Facilities.{Facilities}
 use Rattle.fields.specs.declared.Header.{Header}
 use Rattle.fields.specs.declared.Place.{Place}
-use Rattle.found.specs.Found.{orSingle, singleOf}
+use Rattle.single.specs.Single.{orSingle, singleOf}
 use Rattle.elements.specs.declared.Reading.{Reading}
 use Rattle.elements.specs.declared.Fault.{Fault}
 use Rattle.elements.specs.declared.Read.{Read}

@@ -11,7 +11,8 @@ use Rattle.elements.specs.declared.Read.{Read}
 use Rattle.found.specs.declared.Seen.{Seen}
 use Rattle.found.specs.declared.Found.{Found}
 use Rattle.elements.specs.Elements.{Element}
-use Rattle.found.specs.Found.{orSingle, causeSeen}
+use Rattle.single.specs.Single.{orSingle}
+use Rattle.found.specs.Found.{causeSeen}
 use Rattle.elements.specs.Meaning.{firstSingle, firstCause, firstPlace, components, firstThree}
 
 -- what was found before, and then the elements that are left

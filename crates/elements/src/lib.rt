@@ -16,9 +16,9 @@ use found::Seen;
 use found::cause_seen;
 use found::first_cause;
 use found::first_place;
-use found::first_single;
-use found::single_in;
 use found::with_facility;
+use single::first_single;
+use single::single_in;
 
 pub struct Reading {
     pub message: Message,

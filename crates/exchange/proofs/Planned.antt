@@ -8,10 +8,10 @@ use Rattle.call.specs.declared.Call.{Call}
 use Rattle.call.specs.declared.Event.{Event}
 use Rattle.call.specs.Sound.{freshCall}
 use Rattle.choosing.specs.declared.choice.Choice.{Choice}
-use Rattle.settling.specs.declared.plan.Put.{Put}
+use Rattle.plan.specs.declared.Put.{Put}
 use Rattle.exchange.specs.Chosen.{chosenOf}
 use Rattle.exchange.specs.Halves.{lookAt, lookOf, committed}
-use Rattle.settling.specs.Plan.{planOf, rowOf, recordOf}
+use Rattle.plan.specs.Plan.{planOf, rowOf, recordOf}
 use Rattle.exchange.specs.Step.{outcomeAt, tableAt, stepOutcome, stepTable}
 
 beyond : (l : List Call) (i : ℕ) (c : Call) → length l ≤ i → set l i c ≡ l

@@ -6,8 +6,8 @@ use Rattle.call.specs.declared.Call.{Call}
 use Rattle.call.specs.declared.Event.{Event}
 use Rattle.call.specs.Sound.{freshCall}
 use Rattle.choosing.specs.declared.choice.Choice.{Choice}
-use Rattle.settling.specs.declared.plan.Looked.{Looked}
-use Rattle.settling.specs.declared.plan.Put.{Put}
+use Rattle.plan.specs.declared.Looked.{Looked}
+use Rattle.plan.specs.declared.Put.{Put}
 use Rattle.exchange.specs.Chosen.{chosenOf}
 
 abbrev pub lookAt : List Call → Choice → Looked

@@ -7,14 +7,7 @@ use Rattle.component.specs.declared.facility.Component.{Component}
 use Rattle.component.specs.Facility.{serviceOctet}
 use Rattle.fields.specs.declared.Facilities.{Facilities}
 use Rattle.text.specs.Decimal.{decimalOf}
-
--- a column, after the space that parts it from the one before
-abbrev pub column : List ℕ → List ℕ
-column c = 32 ∷ c
-
--- what is absent: `-`
-abbrev pub dash : List ℕ
-dash = 45 ∷ []
+use Rattle.text.specs.Columns.{dash}
 
 -- `p` preferred, `r` required
 abbrev pub wishLetter : Wish → ℕ

@@ -3,11 +3,11 @@ use Prim.Native.Nat.{ℕ}
 use mathlib.Core.List.{List}
 use mathlib.Core.Bool.{Bool, cond}
 use Rattle.call.specs.declared.Event.{Event}
-use Rattle.settling.specs.declared.plan.Looked.{Looked}
-use Rattle.settling.specs.declared.plan.Plan.{Plan}
+use Rattle.plan.specs.declared.Looked.{Looked}
+use Rattle.plan.specs.declared.Plan.{Plan}
 use Rattle.settling.specs.declared.settle.Outcome.{Outcome}
 use Rattle.choosing.specs.Choice.{verdictNumber}
-use Rattle.settling.specs.Plan.{planOf}
+use Rattle.plan.specs.Plan.{planOf}
 use Rattle.trace.specs.declared.reading.Entry.{Entry}
 use Rattle.trace.specs.declared.reading.Fault.{Fault}
 use Rattle.trace.specs.declared.reading.Record.{Record}

@@ -8,7 +8,8 @@ use lib.Seq.{length-take-le, take-at, drop-append-add}
 use Rattle.room.specs.Room.{placed}
 use Rattle.text.specs.Pieces.{Piece}
 use Rattle.text.proofs.Pieced.{spelled, two, no-piece}
-use Rattle.items.specs.Items.{column, commas, joined}
+use Rattle.text.specs.Columns.{column}
+use Rattle.items.specs.Items.{commas, joined}
 
 commas-append : (a b : List (List ℕ)) → commas (a ++ b) ≡ commas a ++ commas b
 unfolding commas

@@ -8,14 +8,7 @@ use Rattle.sent.specs.declared.Level.{Level}
 use Rattle.sent.specs.declared.Message.{Message}
 use Rattle.sent.specs.declared.Sent.{Sent}
 use Rattle.text.specs.Decimal.{decimalOf}
-
--- what is absent: `-`
-abbrev pub dash : List ℕ
-dash = 45 ∷ []
-
--- a column, after the space that parts it from the one before
-abbrev pub column : List ℕ → List ℕ
-column c = 32 ∷ c
+use Rattle.text.specs.Columns.{dash}
 
 -- `cause.N`
 abbrev pub causeItem : Cause → List (List ℕ)

@@ -11,7 +11,7 @@ use Rattle.room.specs.Room.{Written}
 use Rattle.text.specs.Decimal.{decimalOf}
 use Rattle.text.specs.Pieces.{Piece}
 use Rattle.text.proofs.Pieced.{settled, spelled, two, piece-length, octet}
-use Rattle.facilities.specs.Column.{column}
+use Rattle.text.specs.Columns.{column}
 use Rattle.line.proofs.Words.{taken-text}
 
 -- the columns of a message but for its element

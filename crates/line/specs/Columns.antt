@@ -12,7 +12,8 @@ use Rattle.kinds.specs.Kind.{kindOctet}
 use Rattle.elements.specs.Numbers.{readNumber}
 use Rattle.text.specs.Decimal.{decimalOf}
 use Rattle.text.specs.Hex.{hexOf}
-use Rattle.facilities.specs.Column.{column, dash, facilityColumn}
+use Rattle.text.specs.Columns.{column, dash}
+use Rattle.facilities.specs.Column.{facilityColumn}
 
 -- flag 0 or 1
 abbrev pub flagDigit : Bool → ℕ

@@ -2,7 +2,8 @@
 use mathlib.Core.Bool.{Bool, cond, _&&_}
 use Rattle.service.specs.declared.rights.Rights.{Rights}
 use Rattle.meters.specs.declared.Meters.{Meters}
-use Rattle.meter.specs.Meter.{emptyOf, grantedOf, tickedOf}
+use Rattle.meter.specs.Meter.{emptyOf, grantedOf, tickedOf, meterFitsOf}
+use Rattle.service.specs.Rights.{rightsFitOf, referenceFitsOf}
 use Prim.Native.Nat.{ℕ}
 use Rattle.meter.specs.declared.Meter.{Meter}
 use Rattle.sent.specs.declared.Level.{Level}
@@ -56,3 +57,9 @@ refillsOf m r runs = cond runs (tickedMetersOf m r) m
 -- "A tick with the mark set clears it and sends ready"
 unfoldable pub readyOf : Meter → Bool → Sent
 readyOf m runs = onlyIfOf (runs && m .mark) (congestionOf Level.Ready)
+
+-- "a live record or meter with a field out of range, credit over X or count over 2"
+abbrev pub rangesFit : ℕ → Rights → Meters → Bool
+rangesFit reference rights m =
+    ((referenceFitsOf reference && rightsFitOf rights) && meterFitsOf (m .calling) (rights .burst))
+    && meterFitsOf (m .called) (rights .burst)

@@ -1,11 +1,12 @@
 // The two meters of a call, and what the events make of them.
 ghost use mathlib.Core.Path.{_≡_};
-ghost use Rattle.meters.specs.Meters.{emptyMeters, meterOf, withMeterOf, grantsOf, inForceAfterOf, facilityMetersOf, tickedMetersOf, refillsOf, readyOf};
+ghost use Rattle.meters.specs.Meters.{emptyMeters, meterOf, withMeterOf, grantsOf, inForceAfterOf, facilityMetersOf, tickedMetersOf, refillsOf, readyOf, rangesFit};
 use asking::What;
 use fates::Fate;
 use meter::Meter;
 use meter::empty;
 use meter::granted;
+use meter::meter_fits;
 use meter::ticked;
 use rules::side::Side;
 use sent::Level;
@@ -13,6 +14,8 @@ use sent::Sent;
 use sent::congestion;
 use sent::only_if;
 use service::rights::Rights;
+use service::rights::reference_fits;
+use service::rights::rights_fit;
 
 // The meter of what each side sends.
 pub struct Meters {
@@ -114,4 +117,16 @@ pub fn ready(m: Meter, runs: bool) -> Sent
     ensures { λ s. ⌜ s ≡ readyOf m runs ⌝ }
 {
     only_if(runs & m.mark, congestion(Level::Ready))
+}
+
+// Whether what a live record holds is in range, both meters included.
+pub fn ranges_fit(reference: u16, rights: Rights, m: Meters) -> bool
+    ensures { λ r. ⌜ r ≡ rangesFit reference rights m ⌝ }
+{
+    let calling = m.calling;
+    let called = m.called;
+    reference_fits(reference)
+        & rights_fit(rights)
+        & meter_fits(calling, rights.burst)
+        & meter_fits(called, rights.burst)
 }

@@ -27,7 +27,8 @@ use Rattle.found.specs.declared.Found.{Found}
 use Rattle.elements.specs.declared.Read.{Read}
 use Rattle.kinds.specs.Kind.{kindOf, kindOctet}
 use Rattle.elements.specs.Elements.{element, elements, counted}
-use Rattle.found.specs.Found.{moreIn, levelIn, singleOf, oneMore, causeSeen}
+use Rattle.single.specs.Single.{moreIn, levelIn, singleOf}
+use Rattle.found.specs.Found.{oneMore, causeSeen}
 use Rattle.elements.specs.Meaning.{takenOf}
 use Rattle.message.specs.Reading.{readOf, partOf, userUserOf}
 use Rattle.elements.specs.Scan.{Adds, takenWith}

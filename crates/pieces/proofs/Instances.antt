@@ -10,13 +10,13 @@ use Rattle.meter.specs.Meter.{emptyOf, meterFitsOf}
 use Rattle.service.specs.Element.{wellFormedOf, seenOf, goesOutOf}
 use Rattle.service.specs.Rights.{rightsFitOf, referenceFitsOf, noRights}
 use Rattle.standing.specs.Standing.{remainsOf, noServices}
-use Rattle.requests.specs.Requests.{firstStandingOf, standingsOf, lacksOf, passedRequestsOf, networkRefusalsOf, setupPhaseOf, toCallerOf, toCalledOf}
+use Rattle.requests.specs.Requests.{firstStandingOf, standingsOf, lacksOf, passedRequestsOf, networkRefusalsOf, setupPhaseOf, toCallerOf, toCalledOf, setupCarriesOf}
 use Rattle.asking.specs.Asking.{nobodyAsks}
 use Rattle.sent.specs.Message.{sayingOf, onlyIfOf}
 use Rattle.meters.specs.Meters.{emptyMeters, refillsOf, readyOf}
 use Rattle.call.specs.Sound.{freshCall, fieldsFitOf, soundOf}
 use Rattle.call.specs.Reply.{barOf, refusedOf, heardOf}
-use Rattle.call.specs.Setup.{filledOf, setupCarriesOf, proceedsOf, setupOf}
+use Rattle.call.specs.Setup.{filledOf, proceedsOf, setupOf}
 use Rattle.call.specs.Information.{metersOf}
 use Rattle.call.specs.Tick.{runsOf, passesTickOf, tickOf}
 use Rattle.table.specs.Table.{tableSound}

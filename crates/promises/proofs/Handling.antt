@@ -30,7 +30,7 @@ use Rattle.call.specs.declared.reply.Reply.{Reply}
 use Rattle.meter.specs.Meter.{underThreeOf, passageOf}
 use Rattle.service.specs.Element.{noteNumberOf, seenOf, notedOf, goesOutOf}
 use Rattle.standing.specs.Standing.{remainsOf}
-use Rattle.requests.specs.Requests.{firstStandingOf, standingsOf, lacksOf, toCallerOf, toCalledOf, setupPhaseOf}
+use Rattle.requests.specs.Requests.{firstStandingOf, standingsOf, lacksOf, toCallerOf, toCalledOf, setupPhaseOf, setupCarriesOf}
 use Rattle.fates.specs.Fates.{failedOf}
 use Rattle.rules.specs.Answer.{numberOf}
 use Rattle.sent.specs.Message.{sayingOf, bareOf, congestionOf, informsOf, onlyIfOf}
@@ -42,7 +42,7 @@ use Rattle.call.specs.Facility.{passesFacilityOf, facilityOf}
 use Rattle.meters.specs.Meters.{meterOf, readyOf}
 use Rattle.call.specs.Information.{informationPassageOf, carriedOf, withElementOf, informationOf}
 use Rattle.call.specs.Reply.{refusedOf, replyOf}
-use Rattle.call.specs.Setup.{filledOf, setupCarriesOf, proceedsOf, setupOf}
+use Rattle.call.specs.Setup.{filledOf, proceedsOf, setupOf}
 use Rattle.call.specs.Step.{notAnEventOf, stepOf}
 use Rattle.call.specs.Tick.{passesTickOf, tickOf}
 use Rattle.promises.specs.Numbers.{WellFormed, InForce, Has, ServesTwo, ServesThree, meterFrom, other}

@@ -35,7 +35,7 @@ use Rattle.meter.specs.Meter.{tickedOf, afterOf}
 use Rattle.service.specs.Element.{seenOf, wholeOf, goesOutOf}
 use Rattle.service.specs.Rights.{hasOf, rightsFitOf, referenceFitsOf}
 use Rattle.standing.specs.Standing.{inForceOf}
-use Rattle.requests.specs.Requests.{askedStandingOf, impliedOf, firstStandingOf, standingsOf, lackingOf, lacksOf, setupPhaseOf, toCallerOf, toCalledOf}
+use Rattle.requests.specs.Requests.{askedStandingOf, impliedOf, firstStandingOf, standingsOf, lackingOf, lacksOf, setupPhaseOf, toCallerOf, toCalledOf, setupCarriesOf}
 use Rattle.fates.specs.Fates.{decidedOf, settledOf, settlesOf, failureOf, failedOf, alertingFatesOf, connectFatesOf}
 use Rattle.rules.specs.Answer.{takenOf}
 use Rattle.asking.specs.Asking.{nobodyAsks, asksOf, mayAskOf, toRequestOf, toAnswerOf, facilityAnswerOf, facilityThreeOf, aboutThreeOf}
@@ -49,7 +49,7 @@ use Rattle.call.specs.Facility.{facilityVerdictOf, facilityCallOf, passesFacili
 use Rattle.meters.specs.Meters.{facilityMetersOf, meterOf, withMeterOf, emptyMeters, tickedMetersOf, refillsOf, readyOf}
 use Rattle.call.specs.Information.{metersOf, informationPassageOf, carriedOf, withElementOf, informationOf}
 use Rattle.call.specs.Reply.{barOf, refusedOf, heardOf, replyOf}
-use Rattle.call.specs.Setup.{filledOf, setupCarriesOf, proceedsOf, setupOf}
+use Rattle.call.specs.Setup.{filledOf, proceedsOf, setupOf}
 use Rattle.call.specs.Sound.{soundOf, freshCall, inPhaseOf}
 use Rattle.call.specs.Step.{notAnEventOf, stepOf}
 use Rattle.call.specs.Tick.{runsOf, passesTickOf, tickOf}

@@ -33,7 +33,7 @@ use Rattle.service.specs.Cause.{firstOf}
 use Rattle.service.specs.Element.{noteNumberOf, seenOf, notedOf}
 use Rattle.service.specs.Rights.{hasOf}
 use Rattle.standing.specs.Standing.{inForceOf, awaitsOf, remainsOf, silentAnswers}
-use Rattle.requests.specs.Requests.{firstStandingOf, standingsOf, lackingOf, lacksOf}
+use Rattle.requests.specs.Requests.{firstStandingOf, standingsOf, lackingOf, lacksOf, setupCarriesOf}
 use Rattle.fates.specs.Fates.{decidedOf, settledOf, settlesOf, failureOf, failedOf, alertingFatesOf, connectFatesOf}
 use Rattle.closing.specs.Closing.{closingStandingOf, heardAnswersOf}
 use Rattle.rules.specs.Answer.{numberOf}
@@ -44,7 +44,7 @@ use Rattle.call.specs.Disconnect.{passedOnOf, disconnectOf, endsOf, releaseComp
 use Rattle.call.specs.Facility.{passesFacilityOf, facilityOf}
 use Rattle.call.specs.Information.{informationPassageOf, carriedOf, withElementOf, informationOf}
 use Rattle.call.specs.Reply.{refusedOf, replyOf}
-use Rattle.call.specs.Setup.{setupCarriesOf, proceedsOf, setupOf}
+use Rattle.call.specs.Setup.{proceedsOf, setupOf}
 use Rattle.call.specs.Step.{notAnEventOf, stepOf}
 use Rattle.call.specs.Tick.{passesTickOf, tickOf}
 use Rattle.promises.specs.Numbers.{InForce, answerRows}

@@ -7,7 +7,7 @@ ghost use Rattle.room.specs.Room.{Written};
 ghost use Rattle.body.specs.Kind.{kindOctet};
 ghost use Rattle.text.specs.Decimal.{decimalOf};
 ghost use Rattle.text.specs.Pieces.{Piece};
-ghost use Rattle.items.specs.Items.{column};
+ghost use Rattle.text.specs.Columns.{column};
 ghost use Rattle.report.specs.Line.{typeColumn, saidColumns, numberColumns, typeColumns, lineOf};
 use body::kind::Kind;
 use items::write_sent;

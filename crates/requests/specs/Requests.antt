@@ -1,5 +1,5 @@
 -- What SETUP asks for, held against the rights. had says whether the rights have the service.
-use mathlib.Core.Bool.{Bool, false, cond, _||_, not}
+use mathlib.Core.Bool.{Bool, false, cond, _||_, not, _&&_}
 use Rattle.service.specs.declared.cause.Cause.{Cause}
 use Rattle.service.specs.declared.element.Seen.{Seen}
 use Rattle.service.specs.declared.rights.Rights.{Rights}
@@ -17,6 +17,7 @@ use Rattle.sent.specs.declared.Kind.{Kind}
 use Rattle.sent.specs.declared.Sent.{Sent}
 use Rattle.phases.specs.declared.Phase.{Phase}
 use Rattle.sent.specs.Message.{sayingOf}
+use Rattle.standing.specs.Standing.{remainsOf}
 
 -- "Each service is not asked, preferred or required."
 abbrev pub askedStandingOf : Request → Bool → Standing
@@ -96,3 +97,7 @@ toCallerOf lacking refusals =
 -- "Otherwise SETUP goes on with the remaining requests and the element"
 unfoldable pub toCalledOf : Bool → Facilities → Bool → Sent
 toCalledOf lacking requests element = cond lacking Sent.Absent (sayingOf Kind.Setup Cause.Absent requests element)
+
+-- "the element (if service 1 remains)", and the message goes on
+unfoldable pub setupCarriesOf : Rights → Requests → Seen → Bool
+setupCarriesOf rights q seen = not (lacksOf rights q) && remainsOf (standingsOf rights q seen .one)

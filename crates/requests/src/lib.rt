@@ -1,5 +1,7 @@
 // What SETUP asks for, held against the rights: how each service then stands, and what is said of it to each user.
 ghost use mathlib.Core.Path.{_≡_};
+ghost use mathlib.Core.Bool.{not, _&&_};
+ghost use Rattle.standing.specs.Standing.{remainsOf};
 ghost use Rattle.requests.specs.Requests.{askedStandingOf, impliedOf, firstStandingOf, lackingOf, passedRequestOf, networkRefusalOf, standingsOf, lacksOf, passedRequestsOf, networkRefusalsOf, setupPhaseOf, toCallerOf, toCalledOf};
 use phases::Phase;
 use sent::Kind;
@@ -18,6 +20,7 @@ use standing::Requests;
 use standing::Said;
 use standing::Standing;
 use standing::Standings;
+use standing::remains;
 
 // How a service stands after SETUP; `had` says whether the rights have it.
 fn asked_standing(q: Request, had: bool) -> Standing
@@ -183,4 +186,11 @@ pub fn to_called(lacking: bool, requests: Facilities, element: bool) -> Sent
     } else {
         saying(Kind::Setup, Cause::Absent, requests, element)
     }
+}
+
+// The element goes on where the message does and service 1 remains.
+pub fn carries(lacking: bool, one: Standing) -> bool
+    ensures { λ r. ⌜ r ≡ (not lacking && remainsOf one) ⌝ }
+{
+    !lacking & remains(one)
 }

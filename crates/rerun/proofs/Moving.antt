@@ -8,8 +8,8 @@ use lib.ListN.{length}
 use Rattle.room.specs.declared.Wrote.{Wrote}
 use Rattle.room.specs.Room.{placed, Written}
 use Rattle.text.proofs.Pieced.{no-piece}
-use Rattle.settling.specs.declared.plan.Looked.{Looked}
-use Rattle.settling.specs.declared.plan.Plan.{Plan}
+use Rattle.plan.specs.declared.Looked.{Looked}
+use Rattle.plan.specs.declared.Plan.{Plan}
 use Rattle.trace.specs.declared.reading.Entry.{Entry}
 use Rattle.body.specs.Kind.{sizeOf}
 use Rattle.report.specs.declared.Columns.{Columns}

@@ -26,13 +26,12 @@ use Rattle.fronts.specs.declared.Front.{Front}
 use Rattle.turns.specs.declared.Stand.{Stand}
 use Rattle.turns.specs.declared.Move.{Move}
 use Rattle.settling.specs.declared.settle.Outcome.{Outcome}
-use Rattle.settling.specs.declared.plan.Looked.{Looked}
+use Rattle.plan.specs.declared.Looked.{Looked}
 use Rattle.exchange.specs.Halves.{lookOf, committed}
 use Rattle.exchange.proofs.Planned.{plan-told, plan-put}
 use Rattle.exchange.proofs.Promises.{one-place}
-use Rattle.fronts.specs.Fronts.{heardOf, frontOf, columnsOf}
+use Rattle.fronts.specs.Fronts.{heardOf, frontOf, columnsOf, referenceIn, eventIn, plannedAt}
 use Rattle.rerun.specs.Run.{turnedAt, lineAt, Ran, rests, ends, goes, runIn, runOf, soFar, WorkedOff}
-use Rattle.fronts.specs.Fronts.{referenceIn, eventIn, plannedAt}
 use Rattle.turns.specs.Turns.{halts}
 use Rattle.rerun.specs.Move.{sizeIn, textIn, beginning, moveIn, Moved}
 

@@ -3,7 +3,7 @@ use Prim.Native.Nat.{ℕ, _+_}
 use mathlib.Core.List.{List, []}
 use mathlib.Core.Bool.{Bool, true, false}
 use lib.ListN.{length}
-use Rattle.settling.specs.declared.plan.Looked.{Looked}
+use Rattle.plan.specs.declared.Looked.{Looked}
 use Rattle.body.specs.Kind.{sizeOf}
 use Rattle.report.specs.Line.{lineOf}
 use Rattle.notices.specs.Notices.{faultLine}

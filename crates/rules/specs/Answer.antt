@@ -1,6 +1,6 @@
 -- Numbers given back by a call.
 use Prim.Native.Nat.{ℕ}
-use mathlib.Core.Bool.{Bool, true, false}
+use mathlib.Core.Bool.{Bool, true, false, cond}
 use Rattle.rules.specs.declared.answer.Answer.{Answer}
 
 -- the paper's number of each answer
@@ -29,3 +29,7 @@ takenOf Answer.BadElement = false
 takenOf Answer.AskedRequired = false
 takenOf Answer.OutOfRange = false
 takenOf Answer.Unsound = false
+
+-- "25 comes first of 11 to 25; .. then the call 12, 11, 24". allowed: the phase allows the event. ranged: reference, rights and cause are in range.
+abbrev pub firstBar : Bool → Bool → Bool → Answer
+firstBar sound allowed ranged = cond sound (cond allowed (cond ranged Answer.Taken Answer.OutOfRange) Answer.OutOfPhase) Answer.Unsound

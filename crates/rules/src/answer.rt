@@ -1,6 +1,6 @@
 // What an event is answered, and the number of each answer.
 ghost use mathlib.Core.Path.{_≡_};
-ghost use Rattle.rules.specs.Answer.{numberOf, takenOf};
+ghost use Rattle.rules.specs.Answer.{numberOf, takenOf, firstBar};
 
 pub enum Answer {
     Taken,
@@ -49,5 +49,24 @@ pub fn taken(a: Answer) -> bool
         Answer::AskedRequired => false,
         Answer::OutOfRange => false,
         Answer::Unsound => false,
+    }
+}
+
+// The first of 25, 11 and 24 that applies, if one does.
+pub fn first_bar(sound: bool, allowed: bool, ranged: bool) -> Answer
+    ensures { λ r. ⌜ r ≡ firstBar sound allowed ranged ⌝ }
+{
+    if sound {
+        if allowed {
+            if ranged {
+                Answer::Taken
+            } else {
+                Answer::OutOfRange
+            }
+        } else {
+            Answer::OutOfPhase
+        }
+    } else {
+        Answer::Unsound
     }
 }

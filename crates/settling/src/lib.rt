@@ -1,3 +1,2 @@
 // By value: what an event makes of the record at its place in a table.
-pub mod plan;
 pub mod settle;

@@ -8,7 +8,7 @@ use lib.ListN.{length}
 use Rattle.room.specs.declared.Bar.{Bar}
 use Rattle.room.specs.declared.Wrote.{Wrote}
 use Rattle.room.specs.Room.{wroteOf, leftOf, Written}
-use Rattle.settling.specs.declared.plan.Put.{Put}
+use Rattle.plan.specs.declared.Put.{Put}
 use Rattle.turns.specs.declared.Stand.{Stand}
 use Rattle.turns.specs.declared.Move.{Move}
 use Rattle.turns.specs.Turns.{moveTo, halts, onceWritten, Printed}

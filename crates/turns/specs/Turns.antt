@@ -7,7 +7,7 @@ use lib.ListN.{length}
 use lib.Dec.{leb}
 use Rattle.room.specs.Room.{placed}
 use Rattle.room.specs.declared.Wrote.{Wrote}
-use Rattle.settling.specs.declared.plan.Put.{Put}
+use Rattle.plan.specs.declared.Put.{Put}
 use Rattle.turns.specs.declared.Stand.{Stand}
 use Rattle.turns.specs.declared.Move.{Move}
 

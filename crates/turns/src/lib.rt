@@ -4,8 +4,8 @@ ghost use lib.ListN.{length};
 ghost use Rattle.notices.specs.Notices.{faultLine};
 ghost use Rattle.turns.specs.Turns.{moveTo, onceWritten, faultMove, Printed};
 use notices::write_fault;
+use plan::Put;
 use room::Wrote;
-use settling::plan::Put;
 use trace::reading::Fault;
 
 // Where a run stands. used: how many octets of the piece; wrote: how many octets of text; ended: whether a fault ended the run; more: whether it

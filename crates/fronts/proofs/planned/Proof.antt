@@ -4,7 +4,7 @@ use Rattle.fronts.proofs.planned.Statement.{statement}
 use Rattle.fronts.proofs.planned.Tie as tie
 use Rattle.fronts.proofs.planned.Reads as reads
 use Rattle.fronts.proofs.planned.Lts as lts
-use Rattle.settling.proofs.plan.plans.Reads as plans-reads
+use Rattle.plan.proofs.plans.Reads as plans-reads
 use Rattle.trace.proofs.reading.element.Reads as element-reads
 
 element-requires : tie.Need-element-requires

@@ -49,22 +49,21 @@ use Rattle.call.proofs.Call as T
 use Rattle.call.proofs.Event as E
 use Rattle.call.proofs.Event.Laws as E′
 use Rattle.exchange.specs.Halves.{lookOf, committed}
-use Rattle.settling.specs.declared.plan.Looked.{Looked}
-use Rattle.settling.specs.declared.plan.Put.{Put}
+use Rattle.plan.specs.declared.Looked.{Looked}
+use Rattle.plan.specs.declared.Put.{Put}
 use Rattle.exchange.proofs.Again.{LentAgain}
 use Rattle.exchange.proofs.Looks.{LentShared}
-use Rattle.settling.proofs.plan.Looked as K
-use Rattle.settling.proofs.plan.Looked.Laws as K′
-use Rattle.settling.proofs.plan.Put as Q
-use Rattle.settling.proofs.plan.Put.Laws as Q′
+use Rattle.plan.proofs.Looked as K
+use Rattle.plan.proofs.Looked.Laws as K′
+use Rattle.plan.proofs.Put as Q
+use Rattle.plan.proofs.Put.Laws as Q′
 use Rattle.table.proofs.Ends.{full, forgets, frees-all}
 use Rattle.meter.proofs.Plainly.{pre-plain, calls-lasts, calls-told, calls-plain, leaves}
 use Rattle.fronts.specs.declared.Front.{Front}
 use Rattle.turns.specs.declared.Move.{Move}
 use Rattle.turns.specs.declared.Stand.{Stand}
-use Rattle.fronts.specs.Fronts.{referenceIn, eventIn}
+use Rattle.fronts.specs.Fronts.{referenceIn, eventIn, frontOf}
 use Rattle.rerun.specs.Move.{sizeIn, beginning, Moved}
-use Rattle.fronts.specs.Fronts.{frontOf}
 use Rattle.rerun.specs.Run.{soFar, WorkedOff}
 use Rattle.rerun.proofs.Lent.{shares, lends, shared-back, lent-back}
 use Rattle.rerun.proofs.Running.{Kept, leftOf, starts, front-fits, turns-on}

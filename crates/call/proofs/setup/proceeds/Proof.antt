@@ -1,4 +1,5 @@
-use Rattle.call.specs.Setup.{proceedsOf, setupCarriesOf}
+use Rattle.call.specs.Setup.{proceedsOf}
+use Rattle.requests.specs.Requests.{setupCarriesOf}
 use borrow.Author.Needs.{needs}
 use Rattle.call.proofs.setup.proceeds.Statement.{statement}
 use Rattle.call.proofs.setup.proceeds.Tie as tie
@@ -9,8 +10,8 @@ lacks-requires c κs = search needs
 standings-of-requires : tie.Need-standings-of-requires
 standings-of-requires c κs = search needs
 
-remains-requires : tie.Need-remains-requires
-remains-requires c κs = search needs
+carries-requires : tie.Need-carries-requires
+carries-requires c κs = search needs
 
 network-refusals-requires : tie.Need-network-refusals-requires
 network-refusals-requires c κs = search needs
@@ -38,7 +39,7 @@ to-called-requires c κs = search needs
 
 returns : tie.Need-returns
 unfolding proceedsOf setupCarriesOf
-returns c = simp (c .to-called .ensures, c .before .goes-out .ensures, c .before .before .to-caller .ensures, c .before .before .before .noted .ensures, c .before .before .before .before .filled .ensures, c .before .before .before .before .before .setup-phase .ensures, c .before .before .before .before .before .before .passed-requests .ensures, c .before .before .before .before .before .before .before .network-refusals .ensures, c .before .before .before .before .before .before .before .before .remains .ensures, c .before .before .before .before .before .before .before .before .before .standings-of .ensures, c .before .before .before .before .before .before .before .before .before .before .lacks .ensures)
+returns c = simp (c .to-called .ensures, c .before .goes-out .ensures, c .before .before .to-caller .ensures, c .before .before .before .noted .ensures, c .before .before .before .before .filled .ensures, c .before .before .before .before .before .setup-phase .ensures, c .before .before .before .before .before .before .passed-requests .ensures, c .before .before .before .before .before .before .before .network-refusals .ensures, c .before .before .before .before .before .before .before .before .carries .ensures, c .before .before .before .before .before .before .before .before .before .standings-of .ensures, c .before .before .before .before .before .before .before .before .before .before .lacks .ensures)
 
 pub proceeds-spec : {M : Type 1} → statement M
 proceeds-spec =
@@ -46,7 +47,7 @@ proceeds-spec =
     (tie.spec
     lacks-requires
     standings-of-requires
-    remains-requires
+    carries-requires
     network-refusals-requires
     passed-requests-requires
     setup-phase-requires

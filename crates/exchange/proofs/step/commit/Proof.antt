@@ -46,23 +46,23 @@ use Rattle.call.specs.Sound.{freshCall}
 use Rattle.call.proofs.Call as T
 use Rattle.call.proofs.Call.Laws as T′
 use Rattle.exchange.specs.Halves.{committed}
-use Rattle.settling.specs.Plan.{rowOf, recordOf}
-use Rattle.settling.specs.declared.plan.Put.{Put}
+use Rattle.plan.specs.Plan.{rowOf, recordOf}
+use Rattle.plan.specs.declared.Put.{Put}
 use Rattle.table.proofs.Arms.{assigns-on, skips-on}
 use Rattle.exchange.proofs.Planned.{puts, passes}
 use Rattle.table.proofs.Rows.{byte-fits, own-slice}
 use Rattle.table.proofs.Ends.{full, forgets, frees-all}
 use Rattle.meter.proofs.Plainly.{pre-plain, calls-plain, leaves}
-use Rattle.settling.proofs.plan.Put as U
-use Rattle.settling.proofs.plan.Put.Laws as U′
-use Rattle.settling.proofs.plan.record as g
-use Rattle.settling.proofs.plan.record.Symbol as g-def
-use Rattle.settling.proofs.plan.record.Symbol.{name as #g}
-use Rattle.settling.proofs.plan.record.Met as g-thm
-use Rattle.settling.proofs.plan.row as m
-use Rattle.settling.proofs.plan.row.Symbol as m-def
-use Rattle.settling.proofs.plan.row.Symbol.{name as #m}
-use Rattle.settling.proofs.plan.row.Met as m-thm
+use Rattle.plan.proofs.Put as U
+use Rattle.plan.proofs.Put.Laws as U′
+use Rattle.plan.proofs.record as g
+use Rattle.plan.proofs.record.Symbol as g-def
+use Rattle.plan.proofs.record.Symbol.{name as #g}
+use Rattle.plan.proofs.record.Met as g-thm
+use Rattle.plan.proofs.row as m
+use Rattle.plan.proofs.row.Symbol as m-def
+use Rattle.plan.proofs.row.Symbol.{name as #m}
+use Rattle.plan.proofs.row.Met as m-thm
 use Rattle.exchange.proofs.step.commit.Key.{name as #f}
 use Rattle.exchange.proofs.step.commit as f
 use Rattle.exchange.proofs.step.commit.Statement as stated
@@ -197,5 +197,5 @@ commit-spec 𝓤 H 𝓜 𝓖 𝓡 =
     entered 𝓤 H (tripleOf 𝓤 H (𝓖 .A) f.signature (f.spec 𝓤 H (𝓖 .A) (𝓜 .mem) (𝓡 .run)))
     (tables 𝓤 H 𝓜 𝓡 code.env .C) (tables 𝓤 H 𝓜 𝓡 code.env .Λ) #f code.function (code.unfolded 𝓤 H 𝓜 𝓡)
     (meets 𝓤 H (𝓖 .A) (givenOf 𝓤 H 𝓜 𝓖) (𝓜 .mem) (𝓡 .run) (tablesOf 𝓤 H 𝓜 (tables 𝓤 H 𝓜 𝓡 code.env))
-    (cited 𝓤 H (G 𝓤 H (𝓖 .A) (𝓜 .mem) (𝓡 .run)) 𝓜 𝓡 code.env #g g-def.routine code.calls-settling·plan·record (g-thm.met 𝓤 H 𝓜 𝓖 𝓡))
-    (cited 𝓤 H (L 𝓤 H (𝓖 .A) (𝓜 .mem) (𝓡 .run)) 𝓜 𝓡 code.env #m m-def.routine code.calls-settling·plan·row (m-thm.met 𝓤 H 𝓜 𝓖 𝓡)))
+    (cited 𝓤 H (G 𝓤 H (𝓖 .A) (𝓜 .mem) (𝓡 .run)) 𝓜 𝓡 code.env #g g-def.routine code.calls-plan·record (g-thm.met 𝓤 H 𝓜 𝓖 𝓡))
+    (cited 𝓤 H (L 𝓤 H (𝓖 .A) (𝓜 .mem) (𝓡 .run)) 𝓜 𝓡 code.env #m m-def.routine code.calls-plan·row (m-thm.met 𝓤 H 𝓜 𝓖 𝓡)))

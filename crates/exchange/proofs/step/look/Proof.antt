@@ -53,12 +53,12 @@ use Rattle.exchange.specs.Halves.{lookAt, lookOf}
 use Rattle.choosing.specs.declared.choice.Choice.{Choice}
 use Rattle.choosing.specs.declared.choice.Choice.the-variants.{At, Refused}
 use Rattle.choosing.specs.declared.choice.Verdict.{Verdict}
-use Rattle.settling.specs.declared.plan.Looked.{Looked}
+use Rattle.plan.specs.declared.Looked.{Looked}
 use Rattle.table.proofs.Arms.{assigns-on}
 use Rattle.table.proofs.Ends.{full, forgets, frees-all}
 use Rattle.meter.proofs.Plainly.{pre-plain, calls-told, calls-plain, leaves}
-use Rattle.settling.proofs.plan.Looked as U
-use Rattle.settling.proofs.plan.Looked.Laws as U′
+use Rattle.plan.proofs.Looked as U
+use Rattle.plan.proofs.Looked.Laws as U′
 use Rattle.choosing.proofs.choice.Choice as R
 use Rattle.choosing.proofs.choice.Choice.Laws as R′
 use Rattle.choosing.proofs.choice.Verdict as N
@@ -71,14 +71,14 @@ use Rattle.table.proofs.call_at as p
 use Rattle.table.proofs.call_at.Symbol as p-def
 use Rattle.table.proofs.call_at.Symbol.{name as #p}
 use Rattle.table.proofs.call_at.Met as p-thm
-use Rattle.settling.proofs.plan.met as d
-use Rattle.settling.proofs.plan.met.Symbol as d-def
-use Rattle.settling.proofs.plan.met.Symbol.{name as #d}
-use Rattle.settling.proofs.plan.met.Met as d-thm
-use Rattle.settling.proofs.plan.barred as m
-use Rattle.settling.proofs.plan.barred.Symbol as m-def
-use Rattle.settling.proofs.plan.barred.Symbol.{name as #m}
-use Rattle.settling.proofs.plan.barred.Met as m-thm
+use Rattle.plan.proofs.met as d
+use Rattle.plan.proofs.met.Symbol as d-def
+use Rattle.plan.proofs.met.Symbol.{name as #d}
+use Rattle.plan.proofs.met.Met as d-thm
+use Rattle.plan.proofs.barred as m
+use Rattle.plan.proofs.barred.Symbol as m-def
+use Rattle.plan.proofs.barred.Symbol.{name as #m}
+use Rattle.plan.proofs.barred.Met as m-thm
 use Rattle.exchange.proofs.step.look.Key.{name as #f}
 use Rattle.exchange.proofs.step.look as f
 use Rattle.exchange.proofs.step.look.Statement as stated
@@ -269,5 +269,5 @@ look-spec 𝓤 H 𝓜 𝓖 𝓡 =
     (meets 𝓤 H (𝓖 .A) (givenOf 𝓤 H 𝓜 𝓖) (𝓜 .mem) (𝓡 .run) (tablesOf 𝓤 H 𝓜 (tables 𝓤 H 𝓜 𝓡 code.env))
     (cited 𝓤 H (G 𝓤 H (𝓖 .A) (𝓜 .mem) (𝓡 .run)) 𝓜 𝓡 code.env #g g-def.routine code.calls-exchange·chosen·chosen (g-thm.met 𝓤 H 𝓜 𝓖 𝓡))
     (cited 𝓤 H (P 𝓤 H (𝓖 .A) (𝓜 .mem) (𝓡 .run)) 𝓜 𝓡 code.env #p p-def.routine code.calls-table·call-at (p-thm.met 𝓤 H 𝓜 𝓖 𝓡))
-    (cited 𝓤 H (D 𝓤 H (𝓖 .A) (𝓜 .mem) (𝓡 .run)) 𝓜 𝓡 code.env #d d-def.routine code.calls-settling·plan·met (d-thm.met 𝓤 H 𝓜 𝓖 𝓡))
-    (cited 𝓤 H (L 𝓤 H (𝓖 .A) (𝓜 .mem) (𝓡 .run)) 𝓜 𝓡 code.env #m m-def.routine code.calls-settling·plan·barred (m-thm.met 𝓤 H 𝓜 𝓖 𝓡)))
+    (cited 𝓤 H (D 𝓤 H (𝓖 .A) (𝓜 .mem) (𝓡 .run)) 𝓜 𝓡 code.env #d d-def.routine code.calls-plan·met (d-thm.met 𝓤 H 𝓜 𝓖 𝓡))
+    (cited 𝓤 H (L 𝓤 H (𝓖 .A) (𝓜 .mem) (𝓡 .run)) 𝓜 𝓡 code.env #m m-def.routine code.calls-plan·barred (m-thm.met 𝓤 H 𝓜 𝓖 𝓡)))

@@ -45,11 +45,11 @@ use Rattle.call.proofs.Call as T
 use Rattle.call.proofs.Event as E
 use Rattle.call.proofs.Event.Laws as E′
 use Rattle.exchange.specs.Halves.{lookOf, committed}
-use Rattle.settling.specs.Plan.{planOf}
+use Rattle.plan.specs.Plan.{planOf}
 use Rattle.exchange.specs.Step.{stepOutcome, stepTable}
-use Rattle.settling.specs.declared.plan.Looked.{Looked}
-use Rattle.settling.specs.declared.plan.Plan.{Plan}
-use Rattle.settling.specs.declared.plan.Put.{Put}
+use Rattle.plan.specs.declared.Looked.{Looked}
+use Rattle.plan.specs.declared.Plan.{Plan}
+use Rattle.plan.specs.declared.Put.{Put}
 use Rattle.settling.specs.declared.settle.Outcome.{Outcome}
 use Rattle.exchange.proofs.Again.{LentAgain, lends-again, comes-back}
 use Rattle.exchange.proofs.Looks.{LentShared, shares-again, comes-back as looked-back}
@@ -58,32 +58,32 @@ use Rattle.table.proofs.Ends.{full, forgets, frees-all}
 use Rattle.meter.proofs.Plainly.{pre-plain, calls-lasts, calls-told, calls-plain, leaves}
 use Rattle.settling.proofs.settle.Outcome as U
 use Rattle.settling.proofs.settle.Outcome.Laws as U′
-use Rattle.settling.proofs.plan.Looked as R
-use Rattle.settling.proofs.plan.Looked.Laws as R′
-use Rattle.settling.proofs.plan.Plan as N
-use Rattle.settling.proofs.plan.Plan.Laws as N′
-use Rattle.settling.proofs.plan.Put as O
-use Rattle.settling.proofs.plan.Put.Laws as O′
+use Rattle.plan.proofs.Looked as R
+use Rattle.plan.proofs.Looked.Laws as R′
+use Rattle.plan.proofs.Plan as N
+use Rattle.plan.proofs.Plan.Laws as N′
+use Rattle.plan.proofs.Put as O
+use Rattle.plan.proofs.Put.Laws as O′
 use Rattle.exchange.proofs.step.look as g
 use Rattle.exchange.proofs.step.look.Symbol as g-def
 use Rattle.exchange.proofs.step.look.Symbol.{name as #g}
 use Rattle.exchange.proofs.step.look.Met as g-thm
-use Rattle.settling.proofs.plan.plans as p
-use Rattle.settling.proofs.plan.plans.Symbol as p-def
-use Rattle.settling.proofs.plan.plans.Symbol.{name as #p}
-use Rattle.settling.proofs.plan.plans.Met as p-thm
-use Rattle.settling.proofs.plan.put_of as d
-use Rattle.settling.proofs.plan.put_of.Symbol as d-def
-use Rattle.settling.proofs.plan.put_of.Symbol.{name as #d}
-use Rattle.settling.proofs.plan.put_of.Met as d-thm
+use Rattle.plan.proofs.plans as p
+use Rattle.plan.proofs.plans.Symbol as p-def
+use Rattle.plan.proofs.plans.Symbol.{name as #p}
+use Rattle.plan.proofs.plans.Met as p-thm
+use Rattle.plan.proofs.put_of as d
+use Rattle.plan.proofs.put_of.Symbol as d-def
+use Rattle.plan.proofs.put_of.Symbol.{name as #d}
+use Rattle.plan.proofs.put_of.Met as d-thm
 use Rattle.exchange.proofs.step.commit as c
 use Rattle.exchange.proofs.step.commit.Symbol as c-def
 use Rattle.exchange.proofs.step.commit.Symbol.{name as #c}
 use Rattle.exchange.proofs.step.commit.Met as c-thm
-use Rattle.settling.proofs.plan.told as m
-use Rattle.settling.proofs.plan.told.Symbol as m-def
-use Rattle.settling.proofs.plan.told.Symbol.{name as #m}
-use Rattle.settling.proofs.plan.told.Met as m-thm
+use Rattle.plan.proofs.told as m
+use Rattle.plan.proofs.told.Symbol as m-def
+use Rattle.plan.proofs.told.Symbol.{name as #m}
+use Rattle.plan.proofs.told.Met as m-thm
 use Rattle.exchange.proofs.step.step.Key.{name as #f}
 use Rattle.exchange.proofs.step.step as f
 use Rattle.exchange.proofs.step.step.Statement as stated
@@ -273,7 +273,7 @@ step-spec 𝓤 H 𝓜 𝓖 𝓡 =
     (tables 𝓤 H 𝓜 𝓡 code.env .C) (tables 𝓤 H 𝓜 𝓡 code.env .Λ) #f code.function (code.unfolded 𝓤 H 𝓜 𝓡)
     (meets 𝓤 H (𝓖 .A) (givenOf 𝓤 H 𝓜 𝓖) (𝓜 .mem) (𝓡 .run) (tablesOf 𝓤 H 𝓜 (tables 𝓤 H 𝓜 𝓡 code.env))
     (cited 𝓤 H (G 𝓤 H (𝓖 .A) (𝓜 .mem) (𝓡 .run)) 𝓜 𝓡 code.env #g g-def.routine code.calls-exchange·step·look (g-thm.met 𝓤 H 𝓜 𝓖 𝓡))
-    (cited 𝓤 H (P 𝓤 H (𝓖 .A) (𝓜 .mem) (𝓡 .run)) 𝓜 𝓡 code.env #p p-def.routine code.calls-settling·plan·plans (p-thm.met 𝓤 H 𝓜 𝓖 𝓡))
-    (cited 𝓤 H (D 𝓤 H (𝓖 .A) (𝓜 .mem) (𝓡 .run)) 𝓜 𝓡 code.env #d d-def.routine code.calls-settling·plan·put-of (d-thm.met 𝓤 H 𝓜 𝓖 𝓡))
+    (cited 𝓤 H (P 𝓤 H (𝓖 .A) (𝓜 .mem) (𝓡 .run)) 𝓜 𝓡 code.env #p p-def.routine code.calls-plan·plans (p-thm.met 𝓤 H 𝓜 𝓖 𝓡))
+    (cited 𝓤 H (D 𝓤 H (𝓖 .A) (𝓜 .mem) (𝓡 .run)) 𝓜 𝓡 code.env #d d-def.routine code.calls-plan·put-of (d-thm.met 𝓤 H 𝓜 𝓖 𝓡))
     (cited 𝓤 H (K 𝓤 H (𝓖 .A) (𝓜 .mem) (𝓡 .run)) 𝓜 𝓡 code.env #c c-def.routine code.calls-exchange·step·commit (c-thm.met 𝓤 H 𝓜 𝓖 𝓡))
-    (cited 𝓤 H (L 𝓤 H (𝓖 .A) (𝓜 .mem) (𝓡 .run)) 𝓜 𝓡 code.env #m m-def.routine code.calls-settling·plan·told (m-thm.met 𝓤 H 𝓜 𝓖 𝓡)))
+    (cited 𝓤 H (L 𝓤 H (𝓖 .A) (𝓜 .mem) (𝓡 .run)) 𝓜 𝓡 code.env #m m-def.routine code.calls-plan·told (m-thm.met 𝓤 H 𝓜 𝓖 𝓡)))
