@@ -3,12 +3,12 @@ use Prim.Native.Nat.{ℕ}
 use mathlib.Core.List.{List}
 use mathlib.Core.Bool.{true, false, _&&_}
 use mathlib.Core.Path.{_≡_, refl, _∙_, ap}
-use Rattle.service.specs.declared.rights.Rights.{Rights}
+use Rattle.rights.specs.declared.Rights.{Rights}
 use Rattle.standing.specs.declared.Requests.{Requests}
 use Rattle.call.specs.declared.Call.{Call}
-use Rattle.call.specs.declared.Event.{Event}
-use Rattle.service.specs.Element.{seenOf}
-use Rattle.service.specs.Rights.{rightsFitOf, referenceFitsOf}
+use Rattle.events.specs.declared.Event.{Event}
+use Rattle.carriage.specs.Element.{seenOf}
+use Rattle.rights.specs.Rights.{rightsFitOf, referenceFitsOf}
 use Rattle.call.specs.Reply.{barOf, heardOf}
 use Rattle.call.specs.Setup.{filledOf, proceedsOf, setupOf}
 use Rattle.call.specs.Sound.{soundOf, freshCall}

@@ -8,8 +8,8 @@ use lib.ListN.{length, getD}
 use Rattle.phases.specs.declared.Phase.{Phase}
 use Rattle.call.specs.declared.Call.{Call}
 use Rattle.meter.specs.Meter.{emptyOf, meterFitsOf, passageOf}
-use Rattle.service.specs.Element.{wellFormedOf, seenOf, goesOutOf}
-use Rattle.service.specs.Rights.{rightsFitOf, referenceFitsOf, noRights}
+use Rattle.carriage.specs.Element.{wellFormedOf, seenOf, goesOutOf}
+use Rattle.rights.specs.Rights.{rightsFitOf, referenceFitsOf, noRights}
 use Rattle.standing.specs.Standing.{remainsOf, noServices}
 use Rattle.requests.specs.Requests.{firstStandingOf, standingsOf, lacksOf, setupPhaseOf, setupCarriesOf}
 use Rattle.fates.specs.Fates.{failedOf, settlesOf, alertingFatesOf}

@@ -10,15 +10,15 @@ use borrow.Author.Tests.{ltb-true, ltb-false, eqb-true, eqb-false, eq-eqb}
 use lib.Dec.{ltb, eqb}
 use lib.ListN.{length, getD, set, length-set}
 use lib.Seq.{getD-set-same, getD-set-other}
-use Rattle.rules.specs.declared.answer.Answer.{Answer}
+use Rattle.numbers.specs.declared.Answer.{Answer}
 use Rattle.phases.specs.Phase.{liveOf}
 use Rattle.call.specs.declared.Call.{Call}
-use Rattle.call.specs.declared.Event.{Event}
+use Rattle.events.specs.declared.Event.{Event}
 use Rattle.call.specs.Sound.{freshCall}
 use Rattle.choosing.specs.declared.choice.Choice.{Choice}
 use Rattle.choosing.specs.declared.choice.Verdict.{Verdict}
-use Rattle.choosing.specs.declared.look.Found.{Found}
-use Rattle.choosing.specs.Look.{liveAs, isAt}
+use Rattle.looking.specs.declared.Found.{Found}
+use Rattle.looking.specs.Look.{liveAs, isAt}
 use Rattle.table.specs.Table.{findFrom, placeFrom, heldIn, tableSound}
 use Rattle.exchange.specs.Chosen.{chosenOf}
 use Rattle.choosing.specs.Choice.{referenceOf, opensOf, rangedOf, newPlaceOf, oldPlaceOf, chooseOf}

@@ -5,18 +5,18 @@ use mathlib.Core.List.{List}
 use mathlib.Core.Path.{_≡_, refl, sym, _∙_, ap}
 use lib.ListN.{getD}
 use lib.Seq.{getD-set-same}
-use Rattle.service.specs.declared.rights.Rights.{Rights}
-use Rattle.service.specs.Rights.{rightsFitOf, referenceFitsOf}
-use Rattle.rules.specs.Answer.{numberOf}
+use Rattle.rights.specs.declared.Rights.{Rights}
+use Rattle.rights.specs.Rights.{rightsFitOf, referenceFitsOf}
+use Rattle.numbers.specs.Answer.{numberOf}
 use Rattle.call.specs.declared.Call.{Call}
-use Rattle.call.specs.declared.Event.{Event}
+use Rattle.events.specs.declared.Event.{Event}
 use Rattle.call.specs.declared.reply.Reply.{Reply}
 use Rattle.call.specs.Sound.{freshCall}
 use Rattle.call.specs.Step.{stepOf}
 use Rattle.choosing.specs.declared.choice.Choice.{Choice}
 use Rattle.choosing.specs.declared.choice.Verdict.{Verdict}
 use Rattle.choosing.specs.declared.choice.Wanted.{Wanted}
-use Rattle.choosing.specs.declared.look.Found.{Found}
+use Rattle.looking.specs.declared.Found.{Found}
 use Rattle.choosing.specs.Choice.{wantedOf, ownOr, isNew, referenceOf, opensOf, rangedOf, chooseOf}
 use Rattle.settling.specs.Settle.{subjectOf, keptOf, outcomeOf, refusalOf, settledOf}
 use Rattle.table.specs.Table.{tableSound, findFrom, placeFrom}

@@ -1,16 +1,16 @@
 -- Service 3 asked for while connected.
 use mathlib.Core.Bool.{Bool, true, false, cond, _&&_}
-use Rattle.service.specs.declared.rights.Rights.{Rights}
-use Rattle.service.specs.declared.rights.Service.{Service}
+use Rattle.rights.specs.declared.Rights.{Rights}
+use Rattle.rights.specs.declared.Service.{Service}
 use Rattle.standing.specs.declared.Said.{Said}
 use Rattle.standing.specs.declared.Standing.{Standing}
-use Rattle.rules.specs.declared.answer.Answer.{Answer}
+use Rattle.numbers.specs.declared.Answer.{Answer}
 use Rattle.asking.specs.declared.Asking.{Asking}
 use Rattle.asking.specs.declared.What.{What}
-use Rattle.rules.specs.declared.side.Side.{Side}
-use Rattle.service.specs.Rights.{hasOf}
-use Rattle.rules.specs.Side.{peerOf}
-use Rattle.service.specs.declared.cause.Cause.{Cause}
+use Rattle.sides.specs.declared.Side.{Side}
+use Rattle.rights.specs.Rights.{hasOf}
+use Rattle.sides.specs.Side.{peerOf}
+use Rattle.causes.specs.declared.Cause.{Cause}
 use Rattle.sent.specs.declared.Kind.{Kind}
 use Rattle.sent.specs.declared.Sent.{Sent}
 use Rattle.sent.specs.Message.{sayingOf}

@@ -1,16 +1,16 @@
 // Service 3 asked for while connected: who may ask, who has asked, and what is answered.
 ghost use mathlib.Core.Path.{_≡_};
 ghost use Rattle.asking.specs.Asking.{nobodyAsks, asksOf, withAskOf, mayAskOf, toRequestOf, toAnswerOf, facilityAnswerOf, facilitySaidOf, facilityAskingOf, facilityThreeOf, notGrantedOf, aboutThreeOf};
-use rules::answer::Answer;
-use rules::side::Side;
-use rules::side::peer;
+use causes::Cause;
+use numbers::Answer;
+use rights::Rights;
+use rights::Service;
+use rights::has;
 use sent::Kind;
 use sent::Sent;
 use sent::saying;
-use service::cause::Cause;
-use service::rights::Rights;
-use service::rights::Service;
-use service::rights::has;
+use sides::Side;
+use sides::peer;
 use standing::Facilities;
 use standing::Said;
 use standing::Standing;

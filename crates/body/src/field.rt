@@ -1,56 +1,9 @@
 // The fields of a body: small numbers, and the element with the zeros after it.
 ghost use mathlib.Core.Path.{_≡_};
-ghost use Rattle.body.specs.Field.{flagOf, sideOf, requestOf, givenOf, whatOf, blankOf, fieldFitsOf};
-use asking::What;
-use rules::side::Side;
-use standing::Given;
-use standing::Request;
+ghost use Rattle.body.specs.Field.{blankOf, fieldFitsOf};
 
 // The octets that an element field has.
 pub const FIELD: usize = 132;
-
-pub fn flag_in(x: u8) -> bool
-    ensures { λ r. ⌜ r ≡ flagOf x ⌝ }
-{
-    x != 0
-}
-
-pub fn side_in(x: u8) -> Side
-    ensures { λ r. ⌜ r ≡ sideOf x ⌝ }
-{
-    if x == 0 { Side::Calling } else { Side::Called }
-}
-
-pub fn request_in(x: u8) -> Request
-    ensures { λ r. ⌜ r ≡ requestOf x ⌝ }
-{
-    match x {
-        0 => Request::Unasked,
-        1 => Request::Preferred,
-        _ => Request::Required,
-    }
-}
-
-pub fn given_in(x: u8) -> Given
-    ensures { λ r. ⌜ r ≡ givenOf x ⌝ }
-{
-    match x {
-        0 => Given::Silent,
-        1 => Given::Accepted,
-        _ => Given::Rejected,
-    }
-}
-
-pub fn what_in(x: u8) -> What
-    ensures { λ r. ⌜ r ≡ whatOf x ⌝ }
-{
-    match x {
-        0 => What::Preferred,
-        1 => What::Accept,
-        2 => What::Reject,
-        _ => What::Required,
-    }
-}
 
 // Whether every octet is zero.
 fn blank(s: &[u8]) -> bool

@@ -2,11 +2,11 @@
 use Prim.Native.Nat.{ℕ}
 use mathlib.Core.List.{List}
 use mathlib.Core.Bool.{true, false, not}
-use Rattle.service.specs.declared.cause.Cause.{Cause}
-use Rattle.service.specs.declared.element.Seen.{Seen}
+use Rattle.causes.specs.declared.Cause.{Cause}
+use Rattle.carriage.specs.declared.Seen.{Seen}
 use Rattle.standing.specs.declared.Answers.{Answers}
 use Rattle.fates.specs.declared.Fates.{Fates}
-use Rattle.rules.specs.declared.answer.Answer.{Answer}
+use Rattle.numbers.specs.declared.Answer.{Answer}
 use Rattle.sent.specs.declared.Kind.{Kind}
 use Rattle.sent.specs.declared.Sent.{Sent}
 use Rattle.phases.specs.declared.Phase.{Phase}
@@ -14,8 +14,8 @@ use Rattle.call.specs.declared.Call.{Call}
 use Rattle.call.specs.declared.reply.Reply.{Reply}
 use Rattle.standing.specs.Standing.{inForceOf}
 use Rattle.fates.specs.Fates.{failedOf, settlesOf, tellsOf, declinesOf, alertingFatesOf, connectFatesOf}
-use Rattle.service.specs.Cause.{cleared}
-use Rattle.service.specs.Element.{seenOf, notedOf, goesOutOf}
+use Rattle.causes.specs.Cause.{cleared}
+use Rattle.carriage.specs.Element.{seenOf, notedOf, goesOutOf}
 use Rattle.sent.specs.Message.{sayingOf, bareOf}
 use Rattle.phases.specs.Phase.{requestedOf, connectableOf}
 use Rattle.call.specs.Sound.{inPhaseOf}

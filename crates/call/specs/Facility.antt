@@ -1,17 +1,17 @@
 -- FACILITY: service 3 while connected.
 use mathlib.Core.Bool.{true, cond, _||_, not}
-use Rattle.service.specs.declared.element.Note.{Note}
+use Rattle.carriage.specs.declared.Note.{Note}
 use Rattle.standing.specs.declared.Said.{Said}
-use Rattle.rules.specs.declared.answer.Answer.{Answer}
+use Rattle.numbers.specs.declared.Answer.{Answer}
 use Rattle.asking.specs.declared.What.{What}
-use Rattle.rules.specs.declared.side.Side.{Side}
+use Rattle.sides.specs.declared.Side.{Side}
 use Rattle.call.specs.declared.Call.{Call}
 use Rattle.call.specs.declared.reply.Reply.{Reply}
 use Rattle.standing.specs.Standing.{inForceOf}
 use Rattle.sent.specs.Message.{onlyIfOf}
 use Rattle.asking.specs.Asking.{asksOf, mayAskOf, toRequestOf, toAnswerOf, facilityAnswerOf, facilitySaidOf, facilityAskingOf, facilityThreeOf, notGrantedOf, aboutThreeOf}
-use Rattle.rules.specs.Side.{peerOf}
-use Rattle.rules.specs.Answer.{takenOf}
+use Rattle.sides.specs.Side.{peerOf}
+use Rattle.numbers.specs.Answer.{takenOf}
 use Rattle.phases.specs.Phase.{activeOf}
 use Rattle.meters.specs.Meters.{facilityMetersOf}
 use Rattle.call.specs.Reply.{barOf, heardOf, replyOf}

@@ -3,20 +3,20 @@ use Prim.Native.Nat.{ℕ}
 use mathlib.Core.List.{List}
 use mathlib.Core.Bool.{Bool, true, cond}
 use Rattle.meter.specs.declared.Passage.{Passage}
-use Rattle.service.specs.declared.element.Note.{Note}
-use Rattle.service.specs.declared.element.Seen.{Seen}
-use Rattle.rules.specs.declared.answer.Answer.{Answer}
+use Rattle.carriage.specs.declared.Note.{Note}
+use Rattle.carriage.specs.declared.Seen.{Seen}
+use Rattle.numbers.specs.declared.Answer.{Answer}
 use Rattle.sent.specs.declared.Level.{Level}
-use Rattle.rules.specs.declared.side.Side.{Side}
+use Rattle.sides.specs.declared.Side.{Side}
 use Rattle.call.specs.declared.Call.{Call}
 use Rattle.meters.specs.declared.Meters.{Meters}
 use Rattle.call.specs.declared.reply.Reply.{Reply}
 use Rattle.meter.specs.Meter.{passageOf, afterOf}
 use Rattle.standing.specs.Standing.{inForceOf}
-use Rattle.service.specs.Element.{seenOf, wholeOf, notedOf}
+use Rattle.carriage.specs.Element.{seenOf, wholeOf, notedOf}
 use Rattle.sent.specs.Message.{congestionOf, informsOf, onlyIfOf}
 use Rattle.phases.specs.Phase.{talkingOf}
-use Rattle.rules.specs.Serving.{lateOf, servesTwoOf, servesThreeOf, passageAnswerOf, passesOf, marksOf}
+use Rattle.serving.specs.Serving.{lateOf, servesTwoOf, servesThreeOf, passageAnswerOf, passesOf, marksOf}
 use Rattle.call.specs.Reply.{barOf, refusedOf, heardOf, replyOf}
 use Rattle.meters.specs.Meters.{meterOf, withMeterOf}
 

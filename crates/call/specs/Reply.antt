@@ -1,13 +1,13 @@
 -- The tests that come first, 25, 11 and 24, and replies.
 use mathlib.Core.Bool.{Bool, cond}
-use Rattle.service.specs.declared.element.Note.{Note}
-use Rattle.rules.specs.declared.answer.Answer.{Answer}
+use Rattle.carriage.specs.declared.Note.{Note}
+use Rattle.numbers.specs.declared.Answer.{Answer}
 use Rattle.sent.specs.declared.Sent.{Sent}
-use Rattle.rules.specs.declared.side.Side.{Side}
+use Rattle.sides.specs.declared.Side.{Side}
 use Rattle.call.specs.declared.Call.{Call}
 use Rattle.call.specs.declared.reply.Reply.{Reply}
-use Rattle.rules.specs.Side.{pickOf}
-use Rattle.rules.specs.Answer.{takenOf, firstBar}
+use Rattle.sides.specs.Side.{pickOf}
+use Rattle.numbers.specs.Answer.{takenOf, firstBar}
 use Rattle.call.specs.Sound.{soundOf}
 
 -- what bars an event from being heard, if anything does

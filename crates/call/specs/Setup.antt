@@ -2,17 +2,17 @@
 use Prim.Native.Nat.{ℕ}
 use mathlib.Core.List.{List}
 use mathlib.Core.Bool.{_&&_}
-use Rattle.service.specs.declared.element.Seen.{Seen}
-use Rattle.service.specs.declared.rights.Rights.{Rights}
+use Rattle.carriage.specs.declared.Seen.{Seen}
+use Rattle.rights.specs.declared.Rights.{Rights}
 use Rattle.standing.specs.declared.Requests.{Requests}
 use Rattle.standing.specs.declared.Standings.{Standings}
-use Rattle.rules.specs.declared.answer.Answer.{Answer}
+use Rattle.numbers.specs.declared.Answer.{Answer}
 use Rattle.phases.specs.declared.Phase.{Phase}
 use Rattle.call.specs.declared.Call.{Call}
 use Rattle.call.specs.declared.reply.Reply.{Reply}
-use Rattle.service.specs.Rights.{rightsFitOf, referenceFitsOf}
+use Rattle.rights.specs.Rights.{rightsFitOf, referenceFitsOf}
 use Rattle.requests.specs.Requests.{standingsOf, lacksOf, passedRequestsOf, networkRefusalsOf, setupPhaseOf, toCallerOf, toCalledOf, setupCarriesOf}
-use Rattle.service.specs.Element.{seenOf, notedOf, goesOutOf}
+use Rattle.carriage.specs.Element.{seenOf, notedOf, goesOutOf}
 use Rattle.asking.specs.Asking.{nobodyAsks}
 use Rattle.phases.specs.Phase.{freshOf}
 use Rattle.meters.specs.Meters.{emptyMeters}

@@ -2,7 +2,7 @@
 use mathlib.Core.Bool.{Bool, true, cond}
 use Rattle.phases.specs.declared.Phase.{Phase}
 use Rattle.call.specs.declared.Call.{Call}
-use Rattle.service.specs.Rights.{noRights}
+use Rattle.rights.specs.Rights.{noRights}
 use Rattle.asking.specs.Asking.{nobodyAsks}
 use Rattle.phases.specs.Phase.{liveOf}
 use Rattle.meters.specs.Meters.{emptyMeters, rangesFit}

@@ -2,10 +2,10 @@
 use Prim.Native.Nat.{ℕ}
 use mathlib.Core.List.{List}
 use mathlib.Core.Bool.{cond}
-use Rattle.service.specs.declared.element.Note.{Note}
-use Rattle.rules.specs.declared.answer.Answer.{Answer}
+use Rattle.carriage.specs.declared.Note.{Note}
+use Rattle.numbers.specs.declared.Answer.{Answer}
 use Rattle.call.specs.declared.Call.{Call}
-use Rattle.call.specs.declared.Event.{Event}
+use Rattle.events.specs.declared.Event.{Event}
 use Rattle.call.specs.declared.reply.Reply.{Reply}
 use Rattle.call.specs.Disconnect.{disconnectOf, releaseCompleteOf}
 use Rattle.call.specs.Information.{informationOf}

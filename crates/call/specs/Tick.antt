@@ -1,12 +1,12 @@
 -- The tick.
 use mathlib.Core.Bool.{Bool, true}
-use Rattle.service.specs.declared.element.Note.{Note}
-use Rattle.rules.specs.declared.answer.Answer.{Answer}
+use Rattle.carriage.specs.declared.Note.{Note}
+use Rattle.numbers.specs.declared.Answer.{Answer}
 use Rattle.call.specs.declared.Call.{Call}
 use Rattle.call.specs.declared.reply.Reply.{Reply}
 use Rattle.standing.specs.Standing.{inForceOf}
 use Rattle.phases.specs.Phase.{liveOf}
-use Rattle.rules.specs.Serving.{servesThreeOf}
+use Rattle.serving.specs.Serving.{servesThreeOf}
 use Rattle.call.specs.Information.{metersOf}
 use Rattle.call.specs.Reply.{barOf, heardOf}
 use Rattle.meters.specs.Meters.{refillsOf, readyOf}

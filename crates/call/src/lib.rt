@@ -1,12 +1,8 @@
 // One call: its record, the events that it takes, and the replies.
 use asking::Asking;
-use asking::What;
 use meters::Meters;
 use phases::Phase;
-use rules::side::Side;
-use service::rights::Rights;
-use standing::Answers;
-use standing::Requests;
+use rights::Rights;
 use standing::Standings;
 
 pub mod answering;
@@ -26,38 +22,4 @@ pub struct Call {
     pub standings: Standings,
     pub asking: Asking,
     pub meters: Meters,
-}
-
-// An event without its element.
-pub enum Event {
-    Setup {
-        reference: u16,
-        rights: Rights,
-        requests: Requests,
-    },
-    Alerting {
-        answers: Answers,
-    },
-    Connect {
-        answers: Answers,
-    },
-    Information {
-        side: Side,
-        more: bool,
-    },
-    Facility {
-        side: Side,
-        what: What,
-    },
-    Disconnect {
-        side: Side,
-        cause: u8,
-        answers: Answers,
-    },
-    ReleaseComplete {
-        side: Side,
-    },
-    Tick,
-    CallProceeding,
-    CongestionControl,
 }

@@ -2,13 +2,13 @@
 ghost use mathlib.Core.Path.{_≡_};
 ghost use Rattle.call.specs.Reply.{barOf, refusedOf, heardOf, replyOf};
 use crate::Call;
-use rules::answer::Answer;
-use rules::answer::first_bar;
-use rules::answer::taken;
-use rules::side::Side;
-use rules::side::pick;
+use carriage::Note;
+use numbers::Answer;
+use numbers::first_bar;
+use numbers::taken;
 use sent::Sent;
-use service::element::Note;
+use sides::Side;
+use sides::pick;
 
 // calling and called: what is sent to the calling and to the called user.
 pub struct Reply {

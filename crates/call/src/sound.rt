@@ -8,7 +8,7 @@ use meters::empty_meters;
 use meters::ranges_fit;
 use phases::Phase;
 use phases::is_live;
-use service::rights::no_rights;
+use rights::no_rights;
 use standing::no_services;
 
 fn fields_fit(c: Call) -> bool

@@ -2,11 +2,11 @@
 ghost use mathlib.Core.Path.{_≡_};
 ghost use Rattle.call.specs.Step.{notAnEventOf, stepOf};
 use crate::Call;
-use crate::Event;
 use crate::reply::Reply;
 use crate::reply::refused;
-use rules::answer::Answer;
-use service::element::Note;
+use carriage::Note;
+use events::Event;
+use numbers::Answer;
 
 impl Call {
     // CALL PROCEEDING is the box's own message and no event.

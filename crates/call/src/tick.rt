@@ -6,12 +6,12 @@ use crate::information::with_meters;
 use crate::reply::Reply;
 use crate::reply::barred;
 use crate::reply::heard;
+use carriage::Note;
 use meters::ready;
 use meters::refills;
+use numbers::Answer;
 use phases::is_live;
-use rules::answer::Answer;
-use rules::serving::serves_three;
-use service::element::Note;
+use serving::serves_three;
 use standing::in_force;
 
 fn passes_tick(c: Call) -> Reply

@@ -4,11 +4,11 @@ use mathlib.Core.Bool.{Bool, true, false}
 use mathlib.Core.List.{[]}
 use mathlib.Core.Path.{_≡_, refl}
 use native.Mathlib.Omega.{arith}
-use Rattle.service.specs.declared.rights.Rights.{Rights}
-use Rattle.service.specs.declared.rights.Service.{Service}
+use Rattle.rights.specs.declared.Rights.{Rights}
+use Rattle.rights.specs.declared.Service.{Service}
 use Rattle.meter.specs.Meter.{emptyOf, meterFitsOf, grantedOf, countedOf, spentOf, markedOf, refilledOf, tickedOf, underThreeOf, passageOf}
-use Rattle.service.specs.Element.{wellFormedOf, seenOf, goesOutOf}
-use Rattle.service.specs.Rights.{rightsFitOf, referenceFitsOf, noRights}
+use Rattle.carriage.specs.Element.{wellFormedOf, seenOf, goesOutOf}
+use Rattle.rights.specs.Rights.{rightsFitOf, referenceFitsOf, noRights}
 use Rattle.standing.specs.Standing.{remainsOf, silence, silentAnswers, noServices}
 use Rattle.requests.specs.Requests.{firstStandingOf, standingsOf, lacksOf, passedRequestsOf, networkRefusalsOf, setupPhaseOf, toCallerOf, toCalledOf, setupCarriesOf}
 use Rattle.fates.specs.Fates.{failedOf, settlesOf, tellsOf, declinesOf, alertingFatesOf, connectFatesOf}

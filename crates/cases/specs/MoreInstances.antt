@@ -3,12 +3,12 @@ use Prim.Native.Nat.{ℕ}
 use mathlib.Core.List.{List, [], _∷_, _++_}
 use mathlib.Core.Bool.{Bool, true, false}
 use mathlib.Core.Path.{_≡_}
-use Rattle.service.specs.declared.rights.Rights.{Rights}
+use Rattle.rights.specs.declared.Rights.{Rights}
 use Rattle.standing.specs.declared.Given.{Given}
 use Rattle.standing.specs.declared.Request.{Request}
 use Rattle.asking.specs.declared.What.{What}
-use Rattle.rules.specs.declared.side.Side.{Side}
-use Rattle.call.specs.declared.Event.{Event}
+use Rattle.sides.specs.declared.Side.{Side}
+use Rattle.events.specs.declared.Event.{Event}
 use Rattle.call.specs.Sound.{freshCall}
 use Rattle.ranges.specs.Ranges.{RightsInRange}
 use Rattle.promises.specs.Sound.{Offered}

@@ -1,14 +1,14 @@
 -- Numbers 21 to 25: "25 comes first of 11 to 25; then the table gives 24, 22, 21 for SETUP and 23 for other events; then the call".
 use Prim.Native.Nat.{ℕ}
 use mathlib.Core.Bool.{Bool, true, false, cond, _&&_}
-use Rattle.service.specs.Rights.{rightsFitOf, referenceFitsOf}
-use Rattle.rules.specs.declared.answer.Answer.{Answer}
-use Rattle.rules.specs.Answer.{numberOf}
-use Rattle.call.specs.declared.Event.{Event}
+use Rattle.rights.specs.Rights.{rightsFitOf, referenceFitsOf}
+use Rattle.numbers.specs.declared.Answer.{Answer}
+use Rattle.numbers.specs.Answer.{numberOf}
+use Rattle.events.specs.declared.Event.{Event}
 use Rattle.choosing.specs.declared.choice.Verdict.{Verdict}
 use Rattle.choosing.specs.declared.choice.Choice.{Choice}
 use Rattle.choosing.specs.declared.choice.Wanted.{Wanted}
-use Rattle.choosing.specs.declared.look.Found.{Found}
+use Rattle.looking.specs.declared.Found.{Found}
 
 -- the paper's number of each verdict
 abbrev pub verdictNumber : Verdict → ℕ

@@ -1,12 +1,12 @@
 // Which record an event goes to, or the number that the table gives.
 ghost use mathlib.Core.Path.{_≡_};
 ghost use Rattle.choosing.specs.Choice.{verdictNumber, wantedOf, referenceOf, opensOf, rangedOf, newPlaceOf, oldPlaceOf, chooseOf};
-use crate::look::Found;
-use call::Event;
-use rules::answer::Answer;
-use rules::answer::number;
-use service::rights::reference_fits;
-use service::rights::rights_fit;
+use events::Event;
+use looking::Found;
+use numbers::Answer;
+use numbers::number;
+use rights::reference_fits;
+use rights::rights_fit;
 
 // Heard: an answer that a call gives too. The others only a table gives.
 pub enum Verdict {

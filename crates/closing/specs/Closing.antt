@@ -7,7 +7,7 @@ use Rattle.standing.specs.declared.Said.{Said}
 use Rattle.standing.specs.declared.Standing.{Standing}
 use Rattle.standing.specs.declared.Standings.{Standings}
 use Rattle.standing.specs.Standing.{awaitsOf, silentAnswers}
-use Rattle.rules.specs.declared.side.Side.{Side}
+use Rattle.sides.specs.declared.Side.{Side}
 
 -- "rejections of the caller's open requests go on too"
 abbrev pub rejectionOf : Bool → Given → Said

@@ -1,7 +1,7 @@
 // What the answers in the called side's DISCONNECT still make of the services.
 ghost use mathlib.Core.Path.{_≡_};
 ghost use Rattle.closing.specs.Closing.{rejectionOf, closingSaidOf, closingStandingOf, heardAnswersOf, closingFacilitiesOf};
-use rules::side::Side;
+use sides::Side;
 use standing::Answers;
 use standing::Facilities;
 use standing::Given;

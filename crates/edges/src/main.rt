@@ -2,16 +2,16 @@
 // its name, the answer, the note, and the type and cause of the message to the calling and to the called user.
 use asking::What;
 use call::Call;
-use call::Event;
 use call::reply::Reply;
+use carriage::note_number;
+use causes::Cause;
+use events::Event;
 use libc::STDOUT_FILENO;
-use rules::answer::number;
-use rules::side::Side;
+use numbers::number;
+use rights::Rights;
 use sent::Sent;
 use sent::kind_number;
-use service::cause::Cause;
-use service::element::note_number;
-use service::rights::Rights;
+use sides::Side;
 use standing::Answers;
 use standing::Given;
 use standing::Request;

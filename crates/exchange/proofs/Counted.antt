@@ -13,10 +13,10 @@ use Rattle.phases.specs.declared.Phase.{Phase}
 use Rattle.phases.specs.Phase.{liveOf}
 use Rattle.call.specs.declared.Call.{Call}
 use Rattle.call.specs.Sound.{freshCall, soundOf, fieldsFitOf}
-use Rattle.choosing.specs.Look.{liveAs, isAt}
+use Rattle.looking.specs.Look.{liveAs, isAt}
 use Rattle.table.specs.Table.{findFrom, placeFrom, heldIn, callsSound, tableSound}
 use Rattle.exchange.specs.Promises.{Free, LiveAt, Held, Full, Faulty, over, twins, unsound, heldCall, Lowest}
-use Rattle.choosing.specs.declared.look.Found.{Found}
+use Rattle.looking.specs.declared.Found.{Found}
 use Rattle.ranges.specs.Ranges.{InRangeCall}
 use Rattle.ranges.proofs.Ranges.{fields-range}
 use Rattle.table.proofs.Searched.{at-held}

@@ -5,13 +5,14 @@ use native.Mathlib.Nat.{le-refl, not-suc-le-zero, le-of-suc-le-suc}
 use mathlib.Core.List.{List, [], _∷_}
 use lib.ListN.{length, set}
 use Rattle.call.specs.declared.Call.{Call}
-use Rattle.call.specs.declared.Event.{Event}
+use Rattle.events.specs.declared.Event.{Event}
 use Rattle.call.specs.Sound.{freshCall}
 use Rattle.choosing.specs.declared.choice.Choice.{Choice}
 use Rattle.plan.specs.declared.Put.{Put}
 use Rattle.exchange.specs.Chosen.{chosenOf}
 use Rattle.exchange.specs.Halves.{lookAt, lookOf, committed}
-use Rattle.plan.specs.Plan.{planOf, rowOf, recordOf}
+use Rattle.plan.specs.Plan.{rowOf, recordOf}
+use Rattle.deciding.specs.Decided.{planOf}
 use Rattle.exchange.specs.Step.{outcomeAt, tableAt, stepOutcome, stepTable}
 
 beyond : (l : List Call) (i : ℕ) (c : Call) → length l ≤ i → set l i c ≡ l

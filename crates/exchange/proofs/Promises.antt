@@ -10,15 +10,15 @@ use borrow.Author.Tests.{eqb-true, eqb-false, eq-eqb, ne-eqb}
 use lib.Seq.{getD-set-other}
 use Rattle.order.specs.First.{First}
 use Rattle.order.proofs.Only.{exactly}
-use Rattle.service.specs.declared.rights.Rights.{Rights}
+use Rattle.rights.specs.declared.Rights.{Rights}
 use Rattle.standing.specs.declared.Requests.{Requests}
-use Rattle.service.specs.Element.{seenOf}
-use Rattle.service.specs.Rights.{rightsFitOf, referenceFitsOf}
-use Rattle.rules.specs.declared.answer.Answer.{Answer}
-use Rattle.rules.specs.Answer.{numberOf, takenOf}
-use Rattle.service.specs.declared.element.Note.{Note}
+use Rattle.carriage.specs.Element.{seenOf}
+use Rattle.rights.specs.Rights.{rightsFitOf, referenceFitsOf}
+use Rattle.numbers.specs.declared.Answer.{Answer}
+use Rattle.numbers.specs.Answer.{numberOf, takenOf}
+use Rattle.carriage.specs.declared.Note.{Note}
 use Rattle.call.specs.declared.Call.{Call}
-use Rattle.call.specs.declared.Event.{Event}
+use Rattle.events.specs.declared.Event.{Event}
 use Rattle.call.specs.declared.reply.Reply.{Reply}
 use Rattle.call.specs.Reply.{heardOf, barOf, refusedOf}
 use Rattle.call.specs.Setup.{setupOf, proceedsOf}
@@ -30,7 +30,7 @@ use Rattle.choosing.specs.Choice.{verdictNumber, referenceOf, opensOf, rangedOf
 use Rattle.settling.specs.Settle.{subjectOf, changesOf, keptOf, outcomeOf, refusalOf, settledOf}
 use Rattle.exchange.specs.Step.{outcomeAt, tableAt, stepOutcome, stepTable}
 use Rattle.exchange.specs.Promises.{heldCall, otherRows, tableRows, numberAt, Table, Refused, OneChanged, OnePlace, LiveAt, Lowest, Names, Named, OneSpent, Fourteen}
-use Rattle.choosing.specs.declared.look.Found.{Found}
+use Rattle.looking.specs.declared.Found.{Found}
 use Rattle.choosing.specs.declared.choice.Choice.{Choice}
 use Rattle.choosing.specs.declared.choice.Verdict.{Verdict}
 use Rattle.ranges.specs.Ranges.{ReferenceInRange, RightsInRange}

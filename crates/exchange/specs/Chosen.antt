@@ -2,7 +2,7 @@
 use Prim.Native.Nat.{ℕ}
 use mathlib.Core.List.{List}
 use Rattle.call.specs.declared.Call.{Call}
-use Rattle.call.specs.declared.Event.{Event}
+use Rattle.events.specs.declared.Event.{Event}
 use Rattle.choosing.specs.declared.choice.Choice.{Choice}
 use Rattle.table.specs.Table.{tableSound, findFrom, placeFrom}
 use Rattle.choosing.specs.Choice.{referenceOf, chooseOf}

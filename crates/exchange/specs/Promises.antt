@@ -7,13 +7,13 @@ use mathlib.Core.Path.{_≡_}
 use lib.ListN.{length, getD, set}
 use Rattle.order.specs.First.{Rows, end, row, Exactly}
 use Rattle.phases.specs.declared.Phase.{Phase}
-use Rattle.rules.specs.Answer.{numberOf}
+use Rattle.numbers.specs.Answer.{numberOf}
 use Rattle.call.specs.declared.Call.{Call}
-use Rattle.call.specs.declared.Event.{Event}
+use Rattle.events.specs.declared.Event.{Event}
 use Rattle.call.specs.Sound.{freshCall}
 use Rattle.call.specs.Step.{stepOf}
 use Rattle.ranges.specs.Ranges.{ReferenceInRange, RightsInRange, InRangeCall}
-use Rattle.choosing.specs.Look.{liveAs}
+use Rattle.looking.specs.Look.{liveAs}
 use Rattle.choosing.specs.Choice.{verdictNumber}
 use Rattle.exchange.specs.Step.{stepOutcome, stepTable}
 

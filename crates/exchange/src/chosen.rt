@@ -2,10 +2,10 @@
 ghost use mathlib.Core.Path.{_≡_};
 ghost use Rattle.exchange.specs.Chosen.{chosenOf};
 use call::Call;
-use call::Event;
 use choosing::choice::Choice;
 use choosing::choice::choose;
 use choosing::choice::reference_of;
+use events::Event;
 use table::find;
 use table::place;
 use table::sound;

@@ -1,6 +1,6 @@
 -- ALERTING and CONNECT: an answer that is due.
 use mathlib.Core.Bool.{Bool, cond}
-use Rattle.service.specs.declared.cause.Cause.{Cause}
+use Rattle.causes.specs.declared.Cause.{Cause}
 use Rattle.standing.specs.declared.Answers.{Answers}
 use Rattle.standing.specs.declared.Facilities.{Facilities}
 use Rattle.fates.specs.declared.Fate.{Fate}
@@ -9,7 +9,7 @@ use Rattle.standing.specs.declared.Given.{Given}
 use Rattle.standing.specs.declared.Said.{Said}
 use Rattle.standing.specs.declared.Standing.{Standing}
 use Rattle.standing.specs.declared.Standings.{Standings}
-use Rattle.service.specs.Cause.{rejected, notAnswered, firstOf}
+use Rattle.causes.specs.Cause.{rejected, notAnswered, firstOf}
 
 -- "Accepted: in force. Preferred and not accepted: closed. .. Required and not accepted: DISCONNECT to the caller. ..
 -- The caller's cause is 29 for an explicit rejection, 69 for none."

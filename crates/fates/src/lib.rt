@@ -1,10 +1,10 @@
 // What the answers that are due make of the services, and what the caller is told of it.
 ghost use mathlib.Core.Path.{_≡_};
 ghost use Rattle.fates.specs.Fates.{decidedOf, settledOf, toldOf, declinedOf, failureOf, failedOf, settlesOf, tellsOf, declinesOf, alertingFatesOf, connectFatesOf};
-use service::cause::Cause;
-use service::cause::NOT_ANSWERED;
-use service::cause::REJECTED;
-use service::cause::first;
+use causes::Cause;
+use causes::NOT_ANSWERED;
+use causes::REJECTED;
+use causes::first;
 use standing::Answers;
 use standing::Facilities;
 use standing::Given;

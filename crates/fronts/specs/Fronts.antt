@@ -2,17 +2,10 @@
 use Prim.Native.Nat.{ℕ}
 use mathlib.Core.List.{List}
 use mathlib.Core.Bool.{Bool, cond}
-use Rattle.call.specs.declared.Event.{Event}
-use Rattle.plan.specs.declared.Looked.{Looked}
-use Rattle.plan.specs.declared.Plan.{Plan}
-use Rattle.settling.specs.declared.settle.Outcome.{Outcome}
-use Rattle.choosing.specs.Choice.{verdictNumber}
-use Rattle.plan.specs.Plan.{planOf}
-use Rattle.trace.specs.declared.reading.Entry.{Entry}
+use Rattle.events.specs.declared.Event.{Event}
 use Rattle.trace.specs.declared.reading.Fault.{Fault}
 use Rattle.trace.specs.declared.reading.Record.{Record}
-use Rattle.trace.specs.Reading.{recordOf, elementOf}
-use Rattle.report.specs.declared.Columns.{Columns}
+use Rattle.trace.specs.Reading.{recordOf}
 use Rattle.fronts.specs.declared.Front.{Front}
 
 -- "record cut short" is a fault where nothing more comes; otherwise the rest of the record is waited for
@@ -37,19 +30,3 @@ abbrev pub eventIn : Front → Event
 eventIn Front.Waits = Event.Tick
 eventIn (Front.Faulty f) = Event.Tick
 eventIn (Front.Whole e) = e .event
-
--- the record's event, at what the table shows of it
-unfoldable pub plannedAt : Looked → Entry → List ℕ → Plan
-plannedAt l e t = planOf l (e .event) (elementOf e t)
-
--- `kind ref answer note calling called`
-unfoldable pub columnsOf : Entry → Outcome → Columns
-columnsOf e o =
-    record {
-      kind = e .kind;
-      reference = e .reference;
-      answer = verdictNumber (o .verdict);
-      note = o .note;
-      calling = o .calling;
-      called = o .called;
-    }

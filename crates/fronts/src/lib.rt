@@ -1,17 +1,10 @@
 // What a piece of trace begins with, what that asks of a table of calls, and what is printed of the answer; all by value.
 ghost use mathlib.Core.Path.{_≡_};
-ghost use Rattle.fronts.specs.Fronts.{heardOf, frontOf, referenceIn, eventIn, plannedAt, columnsOf};
-use call::Event;
-use choosing::choice::verdict_number;
-use plan::Looked;
-use plan::Plan;
-use plan::plans;
-use report::Columns;
-use settling::settle::Outcome;
+ghost use Rattle.fronts.specs.Fronts.{heardOf, frontOf, referenceIn, eventIn};
+use events::Event;
 use trace::reading::Entry;
 use trace::reading::Fault;
 use trace::reading::Record;
-use trace::reading::element;
 use trace::reading::read_record;
 
 // What a piece of trace begins with. Waits: there is nothing, or the rest of a record has yet to come.
@@ -65,33 +58,5 @@ pub fn event_in(f: Front) -> Event
         Front::Waits => Event::Tick,
         Front::Faulty(x) => Event::Tick,
         Front::Whole(e) => e.event,
-    }
-}
-
-// The record's event, at what the table shows of it.
-pub fn planned(l: Looked, e: Entry, t: &[u8]) -> Plan
-    ensures { λ r. ⌜ r ≡ plannedAt l e (now (t .entry)) ⌝ }
-{
-    let event = e.event;
-    plans(l, event, element(t, e))
-}
-
-pub fn columns_of(e: Entry, o: Outcome) -> Columns
-    ensures { λ r. ⌜ r ≡ columnsOf e o ⌝ }
-{
-    let kind = e.kind;
-    let reference = e.reference;
-    let verdict = o.verdict;
-    let note = o.note;
-    let calling = o.calling;
-    let called = o.called;
-    let answer = verdict_number(verdict);
-    Columns {
-        kind: kind,
-        reference: reference,
-        answer: answer,
-        note: note,
-        calling: calling,
-        called: called,
     }
 }

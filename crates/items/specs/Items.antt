@@ -2,7 +2,7 @@
 use Prim.Native.Nat.{ℕ}
 use mathlib.Core.List.{List, [], _∷_, _++_}
 use mathlib.Core.Bool.{Bool, true, false}
-use Rattle.service.specs.declared.cause.Cause.{Cause}
+use Rattle.causes.specs.declared.Cause.{Cause}
 use Rattle.standing.specs.declared.Said.{Said}
 use Rattle.sent.specs.declared.Level.{Level}
 use Rattle.sent.specs.declared.Message.{Message}

@@ -6,13 +6,13 @@ ghost use Rattle.room.specs.Room.{Written};
 ghost use Rattle.text.specs.Pieces.{Piece};
 ghost use Rattle.text.specs.Columns.{column};
 ghost use Rattle.items.specs.Items.{causeItem, levelItem, saidItem, moreItem, elementItem, itemsOf, commas, joined, messageColumn};
+use causes::Cause;
 use room::Wrote;
 use room::end_of;
 use room::write_octets;
 use sent::Level;
 use sent::Message;
 use sent::Sent;
-use service::cause::Cause;
 use standing::Said;
 use text::decimal::write_decimal;
 

@@ -2,7 +2,7 @@
 use Prim.Native.Nat.{ℕ}
 use mathlib.Core.Bool.{Bool, cond, _&&_}
 use lib.Dec.{leb}
-use Rattle.service.specs.Rights.{within, greatestBurst, greatestRefill}
+use Rattle.rights.specs.Rights.{within, greatestBurst, greatestRefill}
 use Rattle.meter.specs.declared.Meter.{Meter}
 use Rattle.meter.specs.declared.Passage.{Passage}
 use Rattle.lent.specs.declared.Spent.{Spent}

@@ -7,8 +7,8 @@ use meter::after;
 use meter::meter_fits;
 use meter::passage_of;
 use meter::ticked;
-use service::rights::GREATEST_BURST;
-use service::rights::GREATEST_REFILL;
+use rights::GREATEST_BURST;
+use rights::GREATEST_REFILL;
 
 // What became of a message: it passed under service 2 or under service 3, it was dropped and set the mark, it was dropped, or no
 // service serves it. Unsound: the meter was not looked at further.

@@ -1,13 +1,13 @@
 -- The two meters of a call, and what the events make of them.
 use mathlib.Core.Bool.{Bool, cond, _&&_}
-use Rattle.service.specs.declared.rights.Rights.{Rights}
+use Rattle.rights.specs.declared.Rights.{Rights}
 use Rattle.meters.specs.declared.Meters.{Meters}
 use Rattle.meter.specs.Meter.{emptyOf, grantedOf, tickedOf, meterFitsOf}
-use Rattle.service.specs.Rights.{rightsFitOf, referenceFitsOf}
+use Rattle.rights.specs.Rights.{rightsFitOf, referenceFitsOf}
 use Prim.Native.Nat.{ℕ}
 use Rattle.meter.specs.declared.Meter.{Meter}
 use Rattle.sent.specs.declared.Level.{Level}
-use Rattle.rules.specs.declared.side.Side.{Side}
+use Rattle.sides.specs.declared.Side.{Side}
 use Rattle.sent.specs.Message.{congestionOf, onlyIfOf}
 use Rattle.fates.specs.declared.Fate.{Fate}
 use Rattle.sent.specs.declared.Sent.{Sent}

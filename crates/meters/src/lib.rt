@@ -8,14 +8,14 @@ use meter::empty;
 use meter::granted;
 use meter::meter_fits;
 use meter::ticked;
-use rules::side::Side;
+use rights::Rights;
+use rights::reference_fits;
+use rights::rights_fit;
 use sent::Level;
 use sent::Sent;
 use sent::congestion;
 use sent::only_if;
-use service::rights::Rights;
-use service::rights::reference_fits;
-use service::rights::rights_fit;
+use sides::Side;
 
 // The meter of what each side sends.
 pub struct Meters {

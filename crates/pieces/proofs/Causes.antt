@@ -7,10 +7,10 @@ use native.Mathlib.Omega.{arith}
 use borrow.Author.Tests.{leb-true}
 use lib.Dec.{leb}
 use Rattle.meter.specs.declared.Passage.{Passage}
-use Rattle.service.specs.declared.cause.Cause.{Cause}
-use Rattle.service.specs.declared.element.Note.{Note}
-use Rattle.service.specs.declared.element.Seen.{Seen}
-use Rattle.service.specs.declared.rights.Rights.{Rights}
+use Rattle.causes.specs.declared.Cause.{Cause}
+use Rattle.carriage.specs.declared.Note.{Note}
+use Rattle.carriage.specs.declared.Seen.{Seen}
+use Rattle.rights.specs.declared.Rights.{Rights}
 use Rattle.standing.specs.declared.Answers.{Answers}
 use Rattle.standing.specs.declared.Facilities.{Facilities}
 use Rattle.fates.specs.declared.Fate.{Fate}
@@ -19,20 +19,20 @@ use Rattle.standing.specs.declared.Given.{Given}
 use Rattle.standing.specs.declared.Requests.{Requests}
 use Rattle.standing.specs.declared.Standing.{Standing}
 use Rattle.standing.specs.declared.Standings.{Standings}
-use Rattle.service.specs.Cause.{firstOf}
-use Rattle.service.specs.Element.{wholeOf}
+use Rattle.causes.specs.Cause.{firstOf}
+use Rattle.carriage.specs.Element.{wholeOf}
 use Rattle.requests.specs.Requests.{lacksOf, toCallerOf, toCalledOf}
 use Rattle.fates.specs.Fates.{decidedOf, failureOf, failedOf, alertingFatesOf, connectFatesOf}
-use Rattle.rules.specs.declared.answer.Answer.{Answer}
+use Rattle.numbers.specs.declared.Answer.{Answer}
 use Rattle.sent.specs.declared.Kind.{Kind}
 use Rattle.sent.specs.declared.Level.{Level}
 use Rattle.sent.specs.declared.Sent.{Sent}
 use Rattle.phases.specs.declared.Phase.{Phase}
-use Rattle.rules.specs.declared.side.Side.{Side}
-use Rattle.rules.specs.Answer.{takenOf}
+use Rattle.sides.specs.declared.Side.{Side}
+use Rattle.numbers.specs.Answer.{takenOf}
 use Rattle.sent.specs.Message.{sayingOf, bareOf, congestionOf, informsOf, onlyIfOf}
 use Rattle.call.specs.declared.Call.{Call}
-use Rattle.call.specs.declared.Event.{Event}
+use Rattle.events.specs.declared.Event.{Event}
 use Rattle.call.specs.declared.reply.Reply.{Reply}
 use Rattle.call.specs.Sound.{soundOf}
 use Rattle.call.specs.Reply.{barOf, refusedOf, heardOf, replyOf}

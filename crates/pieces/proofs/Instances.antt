@@ -7,8 +7,8 @@ use native.Mathlib.Omega.{arith}
 use borrow.Author.Tests.{ltb-true}
 use lib.Dec.{ltb}
 use Rattle.meter.specs.Meter.{emptyOf, meterFitsOf}
-use Rattle.service.specs.Element.{wellFormedOf, seenOf, goesOutOf}
-use Rattle.service.specs.Rights.{rightsFitOf, referenceFitsOf, noRights}
+use Rattle.carriage.specs.Element.{wellFormedOf, seenOf, goesOutOf}
+use Rattle.rights.specs.Rights.{rightsFitOf, referenceFitsOf, noRights}
 use Rattle.standing.specs.Standing.{remainsOf, noServices}
 use Rattle.requests.specs.Requests.{firstStandingOf, standingsOf, lacksOf, passedRequestsOf, networkRefusalsOf, setupPhaseOf, toCallerOf, toCalledOf, setupCarriesOf}
 use Rattle.asking.specs.Asking.{nobodyAsks}
@@ -25,14 +25,16 @@ use Rattle.choosing.specs.Choice.{chooseOf}
 use Rattle.settling.specs.Settle.{subjectOf, keptOf, outcomeOf, refusalOf, settledOf}
 use Rattle.exchange.specs.Step.{stepOutcome, stepTable}
 use Rattle.body.specs.Kind.{kindOf}
-use Rattle.body.specs.Field.{flagOf, requestOf, blankOf, fieldFitsOf}
+use Rattle.body.specs.Field.{blankOf, fieldFitsOf}
+use Rattle.values.specs.Values.{flagOf, requestOf}
 use Rattle.trace.specs.Reading.{referenceOf, threeFitOf, fieldAtOf, setupRangedOf, rightsOf, requestsOf, countOf, entryOf, recordOf, elementOf}
 use Rattle.trace.proofs.Tests.{both}
 use Rattle.text.specs.Decimal.{digitsOf, decimalOf}
 use Rattle.text.specs.Hex.{digitOf}
 use Rattle.items.specs.Items.{itemsOf, commas, joined}
 use Rattle.report.specs.Line.{numberColumns, typeColumns, lineOf}
-use Rattle.fronts.specs.Fronts.{frontOf, columnsOf}
+use Rattle.fronts.specs.Fronts.{frontOf}
+use Rattle.entries.specs.Entries.{columnsOf}
 use Rattle.rerun.specs.Run.{turnedAt, lineAt, runIn, runOf}
 use Rattle.pieces.specs.Promises.{Octets, Run}
 use Rattle.pieces.specs.Instances.{onePart, otherPart, endLine, lines, strangeLine, Ran, Met}

@@ -5,15 +5,15 @@ use mathlib.Core.Bool.{Bool, true, false}
 use mathlib.Core.Path.{_≡_, refl}
 use native.Mathlib.Omega.{arith}
 use lib.ListN.{length, length-append}
-use Rattle.service.specs.declared.cause.Cause.{Cause}
-use Rattle.service.specs.declared.element.Note.{Note}
+use Rattle.causes.specs.declared.Cause.{Cause}
+use Rattle.carriage.specs.declared.Note.{Note}
 use Rattle.standing.specs.declared.Said.{Said}
-use Rattle.service.specs.Element.{noteNumberOf}
-use Rattle.rules.specs.declared.answer.Answer.{Answer}
+use Rattle.carriage.specs.Element.{noteNumberOf}
+use Rattle.numbers.specs.declared.Answer.{Answer}
 use Rattle.sent.specs.declared.Level.{Level}
 use Rattle.sent.specs.declared.Message.{Message}
 use Rattle.sent.specs.declared.Sent.{Sent}
-use Rattle.rules.specs.Answer.{numberOf}
+use Rattle.numbers.specs.Answer.{numberOf}
 use Rattle.call.specs.declared.Call.{Call}
 use Rattle.choosing.specs.declared.choice.Verdict.{Verdict}
 use Rattle.choosing.specs.Choice.{verdictNumber}
@@ -29,7 +29,7 @@ use Rattle.report.specs.declared.Columns.{Columns}
 use Rattle.items.specs.Items.{causeItem, levelItem, saidItem, moreItem, elementItem, itemsOf, commas, joined, messageColumn}
 use Rattle.report.specs.Line.{typeColumn, saidColumns, numberColumns, typeColumns, lineOf}
 use Rattle.notices.specs.Notices.{faultLine}
-use Rattle.fronts.specs.Fronts.{columnsOf}
+use Rattle.entries.specs.Entries.{columnsOf}
 use Rattle.rerun.specs.Run.{turnedAt, lineAt}
 use Rattle.pieces.specs.Promises.{Octets}
 use Rattle.pieces.proofs.Fronts.{Whole}

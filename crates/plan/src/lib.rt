@@ -1,13 +1,10 @@
 // What an event makes of the table, decided by value: what is put there, and what is answered.
 ghost use mathlib.Core.Path.{_≡_};
-ghost use Rattle.plan.specs.Plan.{planOf, rowOf, recordOf};
+ghost use Rattle.plan.specs.Plan.{rowOf, recordOf};
 ghost use Rattle.plan.specs.declared.Looked.{Looked};
 use call::Call;
-use call::Event;
 use choosing::choice::Verdict;
 use settling::settle::Outcome;
-use settling::settle::refusal;
-use settling::settle::settles;
 
 // What the table shows of an event: the place that it goes to and the record there, or the number that the table gives.
 pub enum Looked {
@@ -36,27 +33,6 @@ pub fn barred(v: Verdict) -> Looked
     ensures { λ r. ⌜ r ≡ Looked.Refused v ⌝ }
 {
     Looked::Refused(v)
-}
-
-// Nothing is put anywhere yet: who holds the table may still leave it as it is.
-pub fn plans(l: Looked, event: Event, element: &[u8]) -> Plan
-    ensures { λ p. ⌜ p ≡ planOf l event (now (element .entry)) ⌝ }
-{
-    match l {
-        Looked::At(i, c) => {
-            let s = settles(c, event, element);
-            let next = s.call;
-            let o = s.outcome;
-            Plan {
-                put: Put::At(i, next),
-                outcome: o,
-            }
-        }
-        Looked::Refused(v) => Plan {
-            put: Put::Nothing,
-            outcome: refusal(v),
-        },
-    }
 }
 
 // The two parts of a plan.

@@ -10,19 +10,19 @@ use Rattle.meter.specs.declared.Passage.{Passage}
 use Rattle.fates.specs.declared.Fate.{Fate}
 use Rattle.standing.specs.declared.Given.{Given}
 use Rattle.standing.specs.declared.Standing.{Standing}
-use Rattle.service.specs.declared.rights.Service.{Service}
+use Rattle.rights.specs.declared.Service.{Service}
 use Rattle.asking.specs.declared.Asking.{Asking}
 use Rattle.phases.specs.declared.Phase.{Phase}
-use Rattle.rules.specs.declared.side.Side.{Side}
+use Rattle.sides.specs.declared.Side.{Side}
 use Rattle.call.specs.declared.Call.{Call}
 use Rattle.meters.specs.declared.Meters.{Meters}
 use Rattle.meter.specs.Meter.{grantedOf, refilledOf, tickedOf, countedOf, spentOf, markedOf, underThreeOf, passageOf, afterOf}
-use Rattle.service.specs.Rights.{hasOf}
+use Rattle.rights.specs.Rights.{hasOf}
 use Rattle.standing.specs.Standing.{inForceOf, remainsOf}
 use Rattle.fates.specs.Fates.{decidedOf, settledOf, failureOf}
 use Rattle.closing.specs.Closing.{closingStandingOf}
 use Rattle.asking.specs.Asking.{nobodyAsks}
-use Rattle.rules.specs.Serving.{lateOf, passesOf}
+use Rattle.serving.specs.Serving.{lateOf, passesOf}
 use Rattle.meters.specs.Meters.{grantsOf, inForceAfterOf, meterOf}
 use Rattle.promises.specs.MoreRights.{NoLess}
 use Rattle.ranges.proofs.Decide.{never, by-cond}

@@ -2,15 +2,15 @@
 use mathlib.Core.Bool.{Bool, true, false, _&&_}
 use mathlib.Core.Logic.{_⊎_, inl, inr, ⊎-elim}
 use mathlib.Core.Path.{_≡_, refl}
-use Rattle.service.specs.declared.rights.Rights.{Rights}
-use Rattle.service.specs.declared.rights.Service.{Service}
+use Rattle.rights.specs.declared.Rights.{Rights}
+use Rattle.rights.specs.declared.Service.{Service}
 use Rattle.standing.specs.declared.Standing.{Standing}
 use Rattle.phases.specs.declared.Phase.{Phase}
-use Rattle.rules.specs.declared.side.Side.{Side}
+use Rattle.sides.specs.declared.Side.{Side}
 use Rattle.call.specs.declared.Call.{Call}
-use Rattle.service.specs.Rights.{hasOf}
+use Rattle.rights.specs.Rights.{hasOf}
 use Rattle.standing.specs.Standing.{inForceOf}
-use Rattle.rules.specs.Serving.{lateOf, servesTwoOf, servesThreeOf}
+use Rattle.serving.specs.Serving.{lateOf, servesTwoOf, servesThreeOf}
 use Rattle.promises.specs.Numbers.{InForce, Has, ServesTwo, ServesThree}
 use Rattle.ranges.proofs.Decide.{never, Decides, both, as-is, eq}
 

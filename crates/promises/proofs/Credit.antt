@@ -10,9 +10,9 @@ use lib.ListN.{length}
 use lib.Dec.{ltb, leb, eqb}
 use Rattle.meter.specs.declared.Meter.{Meter}
 use Rattle.meter.specs.declared.Passage.{Passage}
-use Rattle.service.specs.declared.cause.Cause.{Cause}
-use Rattle.service.specs.declared.element.Seen.{Seen}
-use Rattle.service.specs.declared.rights.Rights.{Rights}
+use Rattle.causes.specs.declared.Cause.{Cause}
+use Rattle.carriage.specs.declared.Seen.{Seen}
+use Rattle.rights.specs.declared.Rights.{Rights}
 use Rattle.standing.specs.declared.Answers.{Answers}
 use Rattle.fates.specs.declared.Fate.{Fate}
 use Rattle.fates.specs.declared.Fates.{Fates}
@@ -21,27 +21,27 @@ use Rattle.standing.specs.declared.Request.{Request}
 use Rattle.standing.specs.declared.Requests.{Requests}
 use Rattle.standing.specs.declared.Standing.{Standing}
 use Rattle.standing.specs.declared.Standings.{Standings}
-use Rattle.rules.specs.declared.answer.Answer.{Answer}
+use Rattle.numbers.specs.declared.Answer.{Answer}
 use Rattle.asking.specs.declared.Asking.{Asking}
 use Rattle.asking.specs.declared.What.{What}
 use Rattle.sent.specs.declared.Kind.{Kind}
 use Rattle.phases.specs.declared.Phase.{Phase}
-use Rattle.rules.specs.declared.side.Side.{Side}
+use Rattle.sides.specs.declared.Side.{Side}
 use Rattle.call.specs.declared.Call.{Call}
-use Rattle.call.specs.declared.Event.{Event}
+use Rattle.events.specs.declared.Event.{Event}
 use Rattle.meters.specs.declared.Meters.{Meters}
 use Rattle.call.specs.declared.reply.Reply.{Reply}
 use Rattle.meter.specs.Meter.{emptyOf, grantedOf, refilledOf, tickedOf, countedOf, spentOf, markedOf, underThreeOf, passageOf, afterOf}
-use Rattle.service.specs.Cause.{firstOf}
-use Rattle.service.specs.Element.{wellFormedOf, seenOf, wholeOf}
+use Rattle.causes.specs.Cause.{firstOf}
+use Rattle.carriage.specs.Element.{wellFormedOf, seenOf, wholeOf}
 use Rattle.standing.specs.Standing.{inForceOf, noServices}
 use Rattle.requests.specs.Requests.{askedStandingOf, firstStandingOf, lackingOf, standingsOf, lacksOf, setupPhaseOf}
 use Rattle.fates.specs.Fates.{decidedOf, settledOf, settlesOf, failureOf, failedOf, alertingFatesOf, connectFatesOf}
-use Rattle.rules.specs.Answer.{numberOf, takenOf}
+use Rattle.numbers.specs.Answer.{numberOf, takenOf}
 use Rattle.asking.specs.Asking.{asksOf, mayAskOf, toRequestOf, toAnswerOf}
 use Rattle.phases.specs.Phase.{requestedOf, connectableOf, talkingOf, activeOf, liveOf}
-use Rattle.rules.specs.Serving.{servesTwoOf, servesThreeOf, passageAnswerOf}
-use Rattle.rules.specs.Side.{peerOf}
+use Rattle.serving.specs.Serving.{servesTwoOf, servesThreeOf, passageAnswerOf}
+use Rattle.sides.specs.Side.{peerOf}
 use Rattle.meters.specs.Meters.{grantsOf, inForceAfterOf, emptyMeters, tickedMetersOf, refillsOf}
 use Rattle.call.specs.Answering.{answeredCallOf, goesOnOf, clearsOf, outcomeOf, answeredOf, alertingOf, connectOf}
 use Rattle.call.specs.Disconnect.{closedCallOf, passedOnOf, disconnectOf, endsOf, releaseCompleteOf}
@@ -50,7 +50,7 @@ use Rattle.call.specs.Information.{metersOf, informationPassageOf, carriedOf, w
 use Rattle.call.specs.Reply.{barOf, refusedOf, heardOf, replyOf}
 use Rattle.call.specs.Setup.{filledOf, proceedsOf, setupOf}
 use Rattle.call.specs.Sound.{soundOf, freshCall, inPhaseOf}
-use Rattle.service.specs.Rights.{noRights}
+use Rattle.rights.specs.Rights.{noRights}
 use Rattle.call.specs.Step.{notAnEventOf, stepOf}
 use Rattle.call.specs.Tick.{runsOf, passesTickOf, tickOf}
 use Rattle.ranges.specs.Ranges.{Live, InRangeCall}

@@ -9,32 +9,32 @@ use borrow.Author.Tests.{ltb-true}
 use lib.ListN.{length}
 use lib.Dec.{ltb}
 use Rattle.meter.specs.declared.Passage.{Passage}
-use Rattle.service.specs.declared.cause.Cause.{Cause}
-use Rattle.service.specs.declared.element.Note.{Note}
-use Rattle.service.specs.declared.element.Seen.{Seen}
-use Rattle.service.specs.declared.rights.Rights.{Rights}
-use Rattle.service.specs.declared.rights.Service.{Service}
+use Rattle.causes.specs.declared.Cause.{Cause}
+use Rattle.carriage.specs.declared.Note.{Note}
+use Rattle.carriage.specs.declared.Seen.{Seen}
+use Rattle.rights.specs.declared.Rights.{Rights}
+use Rattle.rights.specs.declared.Service.{Service}
 use Rattle.standing.specs.declared.Facilities.{Facilities}
 use Rattle.fates.specs.declared.Fates.{Fates}
 use Rattle.standing.specs.declared.Request.{Request}
 use Rattle.standing.specs.declared.Requests.{Requests}
-use Rattle.rules.specs.declared.answer.Answer.{Answer}
+use Rattle.numbers.specs.declared.Answer.{Answer}
 use Rattle.sent.specs.declared.Kind.{Kind}
 use Rattle.sent.specs.declared.Message.{Message}
 use Rattle.sent.specs.declared.Sent.{Sent}
 use Rattle.phases.specs.declared.Phase.{Phase}
-use Rattle.rules.specs.declared.side.Side.{Side}
+use Rattle.sides.specs.declared.Side.{Side}
 use Rattle.call.specs.declared.Call.{Call}
-use Rattle.call.specs.declared.Event.{Event}
+use Rattle.events.specs.declared.Event.{Event}
 use Rattle.call.specs.declared.reply.Reply.{Reply}
 use Rattle.meter.specs.Meter.{underThreeOf, passageOf}
-use Rattle.service.specs.Element.{noteNumberOf, seenOf, notedOf, goesOutOf}
+use Rattle.carriage.specs.Element.{noteNumberOf, seenOf, notedOf, goesOutOf}
 use Rattle.standing.specs.Standing.{remainsOf}
 use Rattle.requests.specs.Requests.{firstStandingOf, standingsOf, lacksOf, toCallerOf, toCalledOf, setupPhaseOf, setupCarriesOf}
 use Rattle.fates.specs.Fates.{failedOf}
-use Rattle.rules.specs.Answer.{numberOf}
+use Rattle.numbers.specs.Answer.{numberOf}
 use Rattle.sent.specs.Message.{sayingOf, bareOf, congestionOf, informsOf, onlyIfOf}
-use Rattle.rules.specs.Serving.{passageAnswerOf, passesOf, marksOf}
+use Rattle.serving.specs.Serving.{passageAnswerOf, passesOf, marksOf}
 use Rattle.call.specs.Answering.{goesOnOf, clearsOf, answeredCallOf, outcomeOf, answeredOf, alertingOf, connectOf}
 use Rattle.call.specs.Disconnect.{closedCallOf, passedOnOf, disconnectOf, endsOf, releaseCompleteOf}
 use Rattle.asking.specs.Asking.{aboutThreeOf}

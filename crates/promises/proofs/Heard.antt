@@ -2,9 +2,9 @@
 use mathlib.Core.Bool.{Bool, true, false}
 use mathlib.Core.Path.{_≡_, refl}
 use native.Mathlib.Omega.{arith}
-use Rattle.service.specs.declared.element.Note.{Note}
-use Rattle.rules.specs.declared.answer.Answer.{Answer}
-use Rattle.rules.specs.Answer.{numberOf}
+use Rattle.carriage.specs.declared.Note.{Note}
+use Rattle.numbers.specs.declared.Answer.{Answer}
+use Rattle.numbers.specs.Answer.{numberOf}
 use Rattle.call.specs.declared.Call.{Call}
 use Rattle.call.specs.declared.reply.Reply.{Reply}
 use Rattle.call.specs.Sound.{soundOf}

@@ -6,11 +6,11 @@ use mathlib.Core.Logic.{inl, inr, ⊎-elim}
 use mathlib.Core.Path.{_≡_, refl, sym, ap, _∙_}
 use native.Mathlib.Omega.{arith}
 use Rattle.meter.specs.declared.Meter.{Meter}
-use Rattle.service.specs.declared.cause.Cause.{Cause}
-use Rattle.service.specs.declared.element.Note.{Note}
-use Rattle.service.specs.declared.element.Seen.{Seen}
-use Rattle.service.specs.declared.rights.Rights.{Rights}
-use Rattle.service.specs.declared.rights.Service.{Service}
+use Rattle.causes.specs.declared.Cause.{Cause}
+use Rattle.carriage.specs.declared.Note.{Note}
+use Rattle.carriage.specs.declared.Seen.{Seen}
+use Rattle.rights.specs.declared.Rights.{Rights}
+use Rattle.rights.specs.declared.Service.{Service}
 use Rattle.standing.specs.declared.Answers.{Answers}
 use Rattle.fates.specs.declared.Fate.{Fate}
 use Rattle.fates.specs.declared.Fates.{Fates}
@@ -19,30 +19,30 @@ use Rattle.standing.specs.declared.Request.{Request}
 use Rattle.standing.specs.declared.Requests.{Requests}
 use Rattle.standing.specs.declared.Said.{Said}
 use Rattle.standing.specs.declared.Standing.{Standing}
-use Rattle.rules.specs.declared.answer.Answer.{Answer}
+use Rattle.numbers.specs.declared.Answer.{Answer}
 use Rattle.asking.specs.declared.Asking.{Asking}
 use Rattle.asking.specs.declared.What.{What}
 use Rattle.sent.specs.declared.Kind.{Kind}
 use Rattle.sent.specs.declared.Level.{Level}
 use Rattle.sent.specs.declared.Sent.{Sent}
 use Rattle.phases.specs.declared.Phase.{Phase}
-use Rattle.rules.specs.declared.side.Side.{Side}
+use Rattle.sides.specs.declared.Side.{Side}
 use Rattle.call.specs.declared.Call.{Call}
-use Rattle.call.specs.declared.Event.{Event}
+use Rattle.events.specs.declared.Event.{Event}
 use Rattle.meters.specs.declared.Meters.{Meters}
 use Rattle.call.specs.declared.reply.Reply.{Reply}
 use Rattle.meter.specs.Meter.{tickedOf, afterOf}
-use Rattle.service.specs.Element.{seenOf, wholeOf, goesOutOf}
-use Rattle.service.specs.Rights.{hasOf, rightsFitOf, referenceFitsOf}
+use Rattle.carriage.specs.Element.{seenOf, wholeOf, goesOutOf}
+use Rattle.rights.specs.Rights.{hasOf, rightsFitOf, referenceFitsOf}
 use Rattle.standing.specs.Standing.{inForceOf}
 use Rattle.requests.specs.Requests.{askedStandingOf, impliedOf, firstStandingOf, standingsOf, lackingOf, lacksOf, setupPhaseOf, toCallerOf, toCalledOf, setupCarriesOf}
 use Rattle.fates.specs.Fates.{decidedOf, settledOf, settlesOf, failureOf, failedOf, alertingFatesOf, connectFatesOf}
-use Rattle.rules.specs.Answer.{takenOf}
+use Rattle.numbers.specs.Answer.{takenOf}
 use Rattle.asking.specs.Asking.{nobodyAsks, asksOf, mayAskOf, toRequestOf, toAnswerOf, facilityAnswerOf, facilityThreeOf, aboutThreeOf}
 use Rattle.sent.specs.Message.{sayingOf, bareOf, congestionOf, informsOf, onlyIfOf}
 use Rattle.phases.specs.Phase.{freshOf, requestedOf, connectableOf, talkingOf, activeOf, upOf, liveOf}
-use Rattle.rules.specs.Serving.{lateOf, servesTwoOf, servesThreeOf, passesOf}
-use Rattle.rules.specs.Side.{peerOf}
+use Rattle.serving.specs.Serving.{lateOf, servesTwoOf, servesThreeOf, passesOf}
+use Rattle.sides.specs.Side.{peerOf}
 use Rattle.call.specs.Answering.{answeredCallOf, goesOnOf, clearsOf, outcomeOf, answeredOf, alertingOf, connectOf}
 use Rattle.call.specs.Disconnect.{closedCallOf, passedOnOf, disconnectOf, endsOf, releaseCompleteOf}
 use Rattle.call.specs.Facility.{facilityVerdictOf, facilityCallOf, passesFacilityOf, facilityOf}

@@ -10,11 +10,11 @@ use lib.Dec.{eqb}
 use Rattle.order.specs.First.{First}
 use Rattle.order.proofs.Only.{only, exactly}
 use Rattle.meter.specs.declared.Passage.{Passage}
-use Rattle.service.specs.declared.cause.Cause.{Cause}
-use Rattle.service.specs.declared.element.Note.{Note}
-use Rattle.service.specs.declared.element.Seen.{Seen}
-use Rattle.service.specs.declared.rights.Rights.{Rights}
-use Rattle.service.specs.declared.rights.Service.{Service}
+use Rattle.causes.specs.declared.Cause.{Cause}
+use Rattle.carriage.specs.declared.Note.{Note}
+use Rattle.carriage.specs.declared.Seen.{Seen}
+use Rattle.rights.specs.declared.Rights.{Rights}
+use Rattle.rights.specs.declared.Service.{Service}
 use Rattle.standing.specs.declared.Answers.{Answers}
 use Rattle.fates.specs.declared.Fate.{Fate}
 use Rattle.fates.specs.declared.Fates.{Fates}
@@ -22,23 +22,23 @@ use Rattle.standing.specs.declared.Given.{Given}
 use Rattle.standing.specs.declared.Request.{Request}
 use Rattle.standing.specs.declared.Requests.{Requests}
 use Rattle.standing.specs.declared.Standing.{Standing}
-use Rattle.rules.specs.declared.answer.Answer.{Answer}
+use Rattle.numbers.specs.declared.Answer.{Answer}
 use Rattle.sent.specs.declared.Kind.{Kind}
 use Rattle.phases.specs.declared.Phase.{Phase}
-use Rattle.rules.specs.declared.side.Side.{Side}
+use Rattle.sides.specs.declared.Side.{Side}
 use Rattle.call.specs.declared.Call.{Call}
-use Rattle.call.specs.declared.Event.{Event}
+use Rattle.events.specs.declared.Event.{Event}
 use Rattle.call.specs.declared.reply.Reply.{Reply}
-use Rattle.service.specs.Cause.{firstOf}
-use Rattle.service.specs.Element.{noteNumberOf, seenOf, notedOf}
-use Rattle.service.specs.Rights.{hasOf}
+use Rattle.causes.specs.Cause.{firstOf}
+use Rattle.carriage.specs.Element.{noteNumberOf, seenOf, notedOf}
+use Rattle.rights.specs.Rights.{hasOf}
 use Rattle.standing.specs.Standing.{inForceOf, awaitsOf, remainsOf, silentAnswers}
 use Rattle.requests.specs.Requests.{firstStandingOf, standingsOf, lackingOf, lacksOf, setupCarriesOf}
 use Rattle.fates.specs.Fates.{decidedOf, settledOf, settlesOf, failureOf, failedOf, alertingFatesOf, connectFatesOf}
 use Rattle.closing.specs.Closing.{closingStandingOf, heardAnswersOf}
-use Rattle.rules.specs.Answer.{numberOf}
+use Rattle.numbers.specs.Answer.{numberOf}
 use Rattle.phases.specs.Phase.{requestedOf}
-use Rattle.rules.specs.Serving.{passageAnswerOf}
+use Rattle.serving.specs.Serving.{passageAnswerOf}
 use Rattle.call.specs.Answering.{answeredCallOf, goesOnOf, clearsOf, outcomeOf, answeredOf, alertingOf, connectOf}
 use Rattle.call.specs.Disconnect.{passedOnOf, disconnectOf, endsOf, releaseCompleteOf}
 use Rattle.call.specs.Facility.{passesFacilityOf, facilityOf}

@@ -12,20 +12,20 @@ use Rattle.order.specs.First.{Rows, end, row, First}
 use Rattle.order.proofs.Only.{exactly}
 use Rattle.meter.specs.declared.Meter.{Meter}
 use Rattle.meter.specs.declared.Passage.{Passage}
-use Rattle.service.specs.declared.rights.Rights.{Rights}
-use Rattle.service.specs.declared.rights.Service.{Service}
-use Rattle.service.specs.declared.element.Seen.{Seen}
+use Rattle.rights.specs.declared.Rights.{Rights}
+use Rattle.rights.specs.declared.Service.{Service}
+use Rattle.carriage.specs.declared.Seen.{Seen}
 use Rattle.asking.specs.declared.What.{What}
-use Rattle.rules.specs.declared.side.Side.{Side}
+use Rattle.sides.specs.declared.Side.{Side}
 use Rattle.call.specs.declared.Call.{Call}
-use Rattle.call.specs.declared.Event.{Event}
+use Rattle.events.specs.declared.Event.{Event}
 use Rattle.call.specs.declared.reply.Reply.{Reply}
 use Rattle.meter.specs.Meter.{underThreeOf, passageOf}
 use Rattle.standing.specs.Standing.{inForceOf}
-use Rattle.rules.specs.Answer.{numberOf}
+use Rattle.numbers.specs.Answer.{numberOf}
 use Rattle.asking.specs.Asking.{asksOf, mayAskOf, toRequestOf, toAnswerOf}
-use Rattle.rules.specs.Serving.{passageAnswerOf}
-use Rattle.rules.specs.Side.{peerOf}
+use Rattle.serving.specs.Serving.{passageAnswerOf}
+use Rattle.sides.specs.Side.{peerOf}
 use Rattle.call.specs.Answering.{alertingOf, connectOf}
 use Rattle.call.specs.Disconnect.{passedOnOf, disconnectOf, endsOf, releaseCompleteOf}
 use Rattle.call.specs.Facility.{facilityVerdictOf, passesFacilityOf, facilityOf}

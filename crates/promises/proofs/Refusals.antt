@@ -8,26 +8,26 @@ use native.Mathlib.Omega.{arith}
 use borrow.Author.Tests.{ltb-false}
 use lib.Dec.{ltb}
 use Rattle.meter.specs.declared.Passage.{Passage}
-use Rattle.service.specs.declared.cause.Cause.{Cause}
-use Rattle.service.specs.declared.element.Note.{Note}
-use Rattle.service.specs.declared.element.Seen.{Seen}
+use Rattle.causes.specs.declared.Cause.{Cause}
+use Rattle.carriage.specs.declared.Note.{Note}
+use Rattle.carriage.specs.declared.Seen.{Seen}
 use Rattle.fates.specs.declared.Fates.{Fates}
-use Rattle.rules.specs.declared.answer.Answer.{Answer}
+use Rattle.numbers.specs.declared.Answer.{Answer}
 use Rattle.asking.specs.declared.What.{What}
 use Rattle.sent.specs.declared.Kind.{Kind}
 use Rattle.phases.specs.declared.Phase.{Phase}
-use Rattle.rules.specs.declared.side.Side.{Side}
+use Rattle.sides.specs.declared.Side.{Side}
 use Rattle.call.specs.declared.Call.{Call}
-use Rattle.call.specs.declared.Event.{Event}
+use Rattle.events.specs.declared.Event.{Event}
 use Rattle.call.specs.declared.reply.Reply.{Reply}
 use Rattle.meter.specs.Meter.{markedOf, underThreeOf, passageOf, afterOf}
-use Rattle.service.specs.Element.{wholeOf}
+use Rattle.carriage.specs.Element.{wholeOf}
 use Rattle.fates.specs.Fates.{failedOf}
 use Rattle.standing.specs.Standing.{silence}
-use Rattle.rules.specs.Answer.{numberOf, takenOf}
+use Rattle.numbers.specs.Answer.{numberOf, takenOf}
 use Rattle.asking.specs.Asking.{toRequestOf, toAnswerOf, notGrantedOf, aboutThreeOf}
 use Rattle.sent.specs.Message.{sayingOf, congestionOf, onlyIfOf}
-use Rattle.rules.specs.Serving.{passageAnswerOf, passesOf, marksOf}
+use Rattle.serving.specs.Serving.{passageAnswerOf, passesOf, marksOf}
 use Rattle.call.specs.Answering.{goesOnOf, clearsOf, outcomeOf, answeredOf, alertingOf, connectOf}
 use Rattle.call.specs.Disconnect.{passedOnOf, disconnectOf, endsOf, releaseCompleteOf}
 use Rattle.call.specs.Facility.{facilityVerdictOf, passesFacilityOf, facilityOf}

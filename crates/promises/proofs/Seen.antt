@@ -5,8 +5,8 @@ use mathlib.Core.Path.{_≡_}
 use borrow.Author.Tests.{leb-true, leb-false, eqb-true, eqb-false}
 use lib.ListN.{length, getD}
 use lib.Dec.{leb, eqb}
-use Rattle.service.specs.declared.element.Seen.{Seen}
-use Rattle.service.specs.Element.{wellFormedOf, seenOf}
+use Rattle.carriage.specs.declared.Seen.{Seen}
+use Rattle.carriage.specs.Element.{wellFormedOf, seenOf}
 use Rattle.promises.specs.Numbers.{WellFormed}
 use Rattle.ranges.proofs.Decide.{never, by-cond, Decides, via, both, le, eq}
 

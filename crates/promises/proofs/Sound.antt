@@ -8,7 +8,7 @@ use native.Mathlib.Omega.{arith}
 use Rattle.order.specs.First.{Rows, end, row, First}
 use Rattle.phases.specs.declared.Phase.{Phase}
 use Rattle.call.specs.declared.Call.{Call}
-use Rattle.call.specs.declared.Event.{Event}
+use Rattle.events.specs.declared.Event.{Event}
 use Rattle.call.specs.declared.reply.Reply.{Reply}
 use Rattle.call.specs.Answering.{alertingOf, connectOf}
 use Rattle.call.specs.Disconnect.{closedCallOf, passedOnOf, disconnectOf, endsOf, releaseCompleteOf}

@@ -7,23 +7,23 @@ use mathlib.Core.Logic.{_⊎_}
 use mathlib.Core.Path.{_≡_}
 use lib.ListN.{length}
 use lib.Dec.{ltb, leb}
-use Rattle.service.specs.declared.rights.Rights.{Rights}
-use Rattle.service.specs.declared.rights.Service.{Service}
+use Rattle.rights.specs.declared.Rights.{Rights}
+use Rattle.rights.specs.declared.Service.{Service}
 use Rattle.standing.specs.declared.Answers.{Answers}
 use Rattle.standing.specs.declared.Given.{Given}
 use Rattle.standing.specs.declared.Request.{Request}
 use Rattle.standing.specs.declared.Requests.{Requests}
-use Rattle.service.specs.Element.{wellFormedOf}
-use Rattle.service.specs.Rights.{hasOf, rightsFitOf, referenceFitsOf}
+use Rattle.carriage.specs.Element.{wellFormedOf}
+use Rattle.rights.specs.Rights.{hasOf, rightsFitOf, referenceFitsOf}
 use Rattle.asking.specs.declared.Asking.{Asking}
 use Rattle.asking.specs.declared.What.{What}
 use Rattle.phases.specs.declared.Phase.{Phase}
-use Rattle.rules.specs.declared.side.Side.{Side}
-use Rattle.rules.specs.Answer.{numberOf}
+use Rattle.sides.specs.declared.Side.{Side}
+use Rattle.numbers.specs.Answer.{numberOf}
 use Rattle.asking.specs.Asking.{nobodyAsks, asksOf, withAskOf}
 use Rattle.phases.specs.Phase.{freshOf, requestedOf, connectableOf, talkingOf, activeOf, upOf, liveOf}
 use Rattle.call.specs.declared.Call.{Call}
-use Rattle.call.specs.declared.Event.{Event}
+use Rattle.events.specs.declared.Event.{Event}
 use Rattle.call.specs.Sound.{freshCall}
 use Rattle.call.specs.Step.{stepOf}
 use Rattle.promises.specs.Numbers.{meterFrom, other}

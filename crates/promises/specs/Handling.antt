@@ -5,20 +5,20 @@ use mathlib.Core.Logic.{_⊎_}
 use mathlib.Core.Bool.{Bool, false, cond}
 use mathlib.Core.Path.{_≡_}
 use lib.ListN.{length}
-use Rattle.service.specs.declared.rights.Rights.{Rights}
-use Rattle.service.specs.declared.rights.Service.{Service}
+use Rattle.rights.specs.declared.Rights.{Rights}
+use Rattle.rights.specs.declared.Service.{Service}
 use Rattle.standing.specs.declared.Answers.{Answers}
 use Rattle.standing.specs.declared.Request.{Request}
 use Rattle.standing.specs.declared.Requests.{Requests}
-use Rattle.service.specs.Element.{noteNumberOf}
+use Rattle.carriage.specs.Element.{noteNumberOf}
 use Rattle.sent.specs.declared.Kind.{Kind}
 use Rattle.sent.specs.declared.Message.{Message}
 use Rattle.sent.specs.declared.Sent.{Sent}
 use Rattle.phases.specs.declared.Phase.{Phase}
-use Rattle.rules.specs.declared.side.Side.{Side}
-use Rattle.rules.specs.Answer.{numberOf}
+use Rattle.sides.specs.declared.Side.{Side}
+use Rattle.numbers.specs.Answer.{numberOf}
 use Rattle.call.specs.declared.Call.{Call}
-use Rattle.call.specs.declared.Event.{Event}
+use Rattle.events.specs.declared.Event.{Event}
 use Rattle.call.specs.declared.reply.Reply.{Reply}
 use Rattle.call.specs.Step.{stepOf}
 use Rattle.promises.specs.Numbers.{WellFormed, InForce, Has, ServesTwo, ServesThree, meterFrom, other}

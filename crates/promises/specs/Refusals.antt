@@ -5,16 +5,16 @@ use mathlib.Core.Logic.{_⊎_}
 use mathlib.Core.Bool.{true, false}
 use mathlib.Core.Path.{_≡_}
 use Rattle.meter.specs.declared.Meter.{Meter}
-use Rattle.service.specs.declared.cause.Cause.{Cause}
+use Rattle.causes.specs.declared.Cause.{Cause}
 use Rattle.standing.specs.declared.Facilities.{Facilities}
 use Rattle.standing.specs.declared.Said.{Said}
 use Rattle.sent.specs.declared.Kind.{Kind}
 use Rattle.sent.specs.declared.Level.{Level}
 use Rattle.sent.specs.declared.Sent.{Sent}
-use Rattle.rules.specs.declared.side.Side.{Side}
-use Rattle.rules.specs.Answer.{numberOf}
+use Rattle.sides.specs.declared.Side.{Side}
+use Rattle.numbers.specs.Answer.{numberOf}
 use Rattle.call.specs.declared.Call.{Call}
-use Rattle.call.specs.declared.Event.{Event}
+use Rattle.events.specs.declared.Event.{Event}
 use Rattle.meters.specs.declared.Meters.{Meters}
 use Rattle.call.specs.declared.reply.Reply.{Reply}
 use Rattle.call.specs.Step.{stepOf}

@@ -2,8 +2,8 @@
 use Prim.Native.Nat.{ℕ}
 use mathlib.Core.List.{List, [], _∷_, _++_}
 use mathlib.Core.Path.{_≡_}
-use Rattle.service.specs.declared.rights.Rights.{Rights}
-use Rattle.service.specs.declared.rights.Service.{Service}
+use Rattle.rights.specs.declared.Rights.{Rights}
+use Rattle.rights.specs.declared.Service.{Service}
 use Rattle.standing.specs.declared.Answers.{Answers}
 use Rattle.standing.specs.declared.Given.{Given}
 use Rattle.standing.specs.declared.Request.{Request}
@@ -12,10 +12,10 @@ use Rattle.standing.specs.declared.Standing.{Standing}
 use Rattle.standing.specs.declared.Standings.{Standings}
 use Rattle.asking.specs.declared.What.{What}
 use Rattle.phases.specs.declared.Phase.{Phase}
-use Rattle.rules.specs.declared.side.Side.{Side}
-use Rattle.rules.specs.Answer.{numberOf}
+use Rattle.sides.specs.declared.Side.{Side}
+use Rattle.numbers.specs.Answer.{numberOf}
 use Rattle.call.specs.declared.Call.{Call}
-use Rattle.call.specs.declared.Event.{Event}
+use Rattle.events.specs.declared.Event.{Event}
 use Rattle.call.specs.Sound.{freshCall}
 use Rattle.call.specs.Step.{stepOf}
 use Rattle.promises.specs.Numbers.{InForce, Has}

@@ -7,25 +7,25 @@ use native.Mathlib.Omega.{arith}
 use borrow.Author.Tests.{leb-true, ltb-true}
 use lib.Dec.{ltb, leb}
 use Rattle.meter.specs.declared.Meter.{Meter}
-use Rattle.service.specs.declared.cause.Cause.{Cause}
-use Rattle.service.specs.declared.element.Seen.{Seen}
-use Rattle.service.specs.declared.rights.Rights.{Rights}
+use Rattle.causes.specs.declared.Cause.{Cause}
+use Rattle.carriage.specs.declared.Seen.{Seen}
+use Rattle.rights.specs.declared.Rights.{Rights}
 use Rattle.fates.specs.declared.Fate.{Fate}
 use Rattle.fates.specs.declared.Fates.{Fates}
 use Rattle.standing.specs.declared.Requests.{Requests}
-use Rattle.rules.specs.declared.answer.Answer.{Answer}
+use Rattle.numbers.specs.declared.Answer.{Answer}
 use Rattle.asking.specs.declared.What.{What}
 use Rattle.sent.specs.declared.Kind.{Kind}
 use Rattle.phases.specs.declared.Phase.{Phase}
-use Rattle.rules.specs.declared.side.Side.{Side}
+use Rattle.sides.specs.declared.Side.{Side}
 use Rattle.call.specs.declared.Call.{Call}
-use Rattle.call.specs.declared.Event.{Event}
+use Rattle.events.specs.declared.Event.{Event}
 use Rattle.meters.specs.declared.Meters.{Meters}
 use Rattle.call.specs.declared.reply.Reply.{Reply}
 use Rattle.meter.specs.Meter.{emptyOf, grantedOf, refilledOf, tickedOf, countedOf, spentOf, markedOf, underThreeOf, passageOf, afterOf}
-use Rattle.service.specs.Element.{wholeOf}
+use Rattle.carriage.specs.Element.{wholeOf}
 use Rattle.fates.specs.Fates.{failedOf}
-use Rattle.rules.specs.Answer.{takenOf}
+use Rattle.numbers.specs.Answer.{takenOf}
 use Rattle.meters.specs.Meters.{grantsOf, inForceAfterOf, facilityMetersOf, meterOf, withMeterOf, emptyMeters, tickedMetersOf, refillsOf}
 use Rattle.call.specs.Answering.{answeredCallOf, goesOnOf, clearsOf, outcomeOf, answeredOf, alertingOf, connectOf}
 use Rattle.call.specs.Disconnect.{closedCallOf, passedOnOf, disconnectOf, endsOf, releaseCompleteOf}

@@ -3,10 +3,10 @@ use Prim.Native.Nat.{ℕ}
 use mathlib.Core.Bool.{Bool, true, false}
 use mathlib.Core.Path.{_≡_, refl}
 use Rattle.meter.specs.declared.Meter.{Meter}
-use Rattle.service.specs.declared.rights.Rights.{Rights}
+use Rattle.rights.specs.declared.Rights.{Rights}
 use Rattle.call.specs.declared.Call.{Call}
 use Rattle.meter.specs.Meter.{meterFitsOf}
-use Rattle.service.specs.Rights.{within, rightsFitOf, referenceFitsOf}
+use Rattle.rights.specs.Rights.{within, rightsFitOf, referenceFitsOf}
 use Rattle.phases.specs.Phase.{liveOf}
 use Rattle.call.specs.Sound.{fieldsFitOf, soundOf}
 use Rattle.ranges.specs.Ranges.{Live, Within, ReferenceInRange, RightsInRange, MeterInRange, InRangeCall, Unsound}

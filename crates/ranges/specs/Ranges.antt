@@ -3,7 +3,7 @@ use Prim.Native.Nat.{ℕ, _≤_}
 use mathlib.Core.Logic.{_⊎_}
 use mathlib.Core.Path.{_≡_}
 use Rattle.meter.specs.declared.Meter.{Meter}
-use Rattle.service.specs.declared.rights.Rights.{Rights}
+use Rattle.rights.specs.declared.Rights.{Rights}
 use Rattle.phases.specs.declared.Phase.{Phase}
 use Rattle.call.specs.declared.Call.{Call}
 

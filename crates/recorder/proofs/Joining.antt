@@ -8,7 +8,7 @@ use native.Mathlib.Numerals.{one-add}
 use native.Mathlib.Omega.{arith}
 use lib.ListN.{length, take, drop, set, replicate, length-append}
 use lib.Seq.{take-append-le, take-at, take-take, length-take-le}
-use Rattle.call.specs.declared.Event.{Event}
+use Rattle.events.specs.declared.Event.{Event}
 use Rattle.recorder.specs.declared.Head.{Head}
 use Rattle.room.specs.declared.Wrote.{Wrote}
 use Rattle.room.specs.Room.{placed, Written}

@@ -8,7 +8,7 @@ use native.Mathlib.Omega.{arith}
 use borrow.Author.Tests.{ltb-false, eqb-true, leb-true, leb-false, lt-ltb, le-ltb, ne-eqb}
 use lib.ListN.{length, getD, length-append, length-replicate}
 use lib.Dec.{ltb, leb, eqb}
-use Rattle.call.specs.declared.Event.{Event}
+use Rattle.events.specs.declared.Event.{Event}
 use Rattle.trace.proofs.Tests.{both, if-so, if-not}
 use Rattle.recorder.specs.Writing.{fieldOctets, headOctets, fieldedOf, elementFitsOf, eventFitsOf, tailFitsOf, recordFitsOf}
 

@@ -9,9 +9,9 @@ use borrow.Author.Tests.{ltb-true, le-leb, eqb-true, ne-eqb, not-true}
 use lib.ListN.{length, getD, drop, replicate, length-append, getD-replicate, List·getD-append}
 use lib.Seq.{getD-append-add, take-append-seam, drop-append-add}
 use lib.Dec.{ltb, eqb}
-use Rattle.call.specs.declared.Event.{Event}
+use Rattle.events.specs.declared.Event.{Event}
 use Rattle.asking.specs.declared.What.{What}
-use Rattle.rules.specs.declared.side.Side.{Side}
+use Rattle.sides.specs.declared.Side.{Side}
 use Rattle.standing.specs.declared.Given.{Given}
 use Rattle.standing.specs.declared.Request.{Request}
 use Rattle.body.specs.declared.kind.Kind.{Kind}
@@ -19,7 +19,7 @@ use Rattle.body.specs.declared.kind.Named.{Named}
 use Rattle.trace.specs.declared.reading.Entry.{Entry}
 use Rattle.trace.specs.declared.reading.Record.{Record}
 use Rattle.body.specs.Kind.{kindOf, sizeOf}
-use Rattle.body.specs.Field.{flagOf, sideOf, requestOf, givenOf, whatOf}
+use Rattle.values.specs.Values.{flagOf, sideOf, requestOf, givenOf, whatOf}
 use Rattle.trace.specs.Reading.{referenceOf, rightsOf, requestsOf, answersOf, eventOf, placeOf, countOf, entryOf, recordOf, elementOf}
 use Rattle.recorder.specs.Writing.{flagOctet, sideOctet, requestOctet, givenOctet, whatOctet, fieldOctets, headOctets, recordOctets, elementFitsOf, recordFitsOf}
 use Rattle.trace.specs.Promises.{Zeros, Held, Field, InRange}

@@ -3,7 +3,7 @@ use Prim.Native.Nat.{ℕ}
 use mathlib.Core.List.{List, _++_}
 use mathlib.Core.Bool.{true}
 use mathlib.Core.Path.{_≡_}
-use Rattle.call.specs.declared.Event.{Event}
+use Rattle.events.specs.declared.Event.{Event}
 use Rattle.trace.specs.declared.reading.Record.{Record}
 use Rattle.trace.specs.declared.reading.Entry.{Entry}
 use Rattle.trace.specs.Reading.{recordOf, elementOf}

@@ -5,9 +5,9 @@ use mathlib.Core.Path.{_≡_}
 use mathlib.Core.Bool.{Bool, true, false, cond, not, _&&_}
 use lib.ListN.{length, getD, take, replicate}
 use lib.Dec.{ltb, eqb}
-use Rattle.call.specs.declared.Event.{Event}
+use Rattle.events.specs.declared.Event.{Event}
 use Rattle.asking.specs.declared.What.{What}
-use Rattle.rules.specs.declared.side.Side.{Side}
+use Rattle.sides.specs.declared.Side.{Side}
 use Rattle.standing.specs.declared.Answers.{Answers}
 use Rattle.standing.specs.declared.Given.{Given}
 use Rattle.standing.specs.declared.Request.{Request}

@@ -2,7 +2,7 @@
 use Prim.Native.Nat.{ℕ}
 use mathlib.Core.List.{List, [], _∷_, _++_}
 use mathlib.Core.Bool.{Bool, true, false}
-use Rattle.service.specs.Element.{noteNumberOf}
+use Rattle.carriage.specs.Element.{noteNumberOf}
 use Rattle.sent.specs.declared.Sent.{Sent}
 use Rattle.sent.specs.Message.{kindNumberOf}
 use Rattle.body.specs.Kind.{kindOctet}

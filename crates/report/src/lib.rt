@@ -10,14 +10,14 @@ ghost use Rattle.text.specs.Pieces.{Piece};
 ghost use Rattle.text.specs.Columns.{column};
 ghost use Rattle.report.specs.Line.{typeColumn, saidColumns, numberColumns, typeColumns, lineOf};
 use body::kind::Kind;
+use carriage::Note;
+use carriage::note_number;
 use items::write_sent;
 use room::Wrote;
 use room::end_of;
 use room::write_octets;
 use sent::Sent;
 use sent::kind_number;
-use service::element::Note;
-use service::element::note_number;
 use text::decimal::write_decimal;
 use text::hex::write_hex;
 

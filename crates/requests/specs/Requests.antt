@@ -1,18 +1,18 @@
 -- What SETUP asks for, held against the rights. had says whether the rights have the service.
 use mathlib.Core.Bool.{Bool, false, cond, _||_, not, _&&_}
-use Rattle.service.specs.declared.cause.Cause.{Cause}
-use Rattle.service.specs.declared.element.Seen.{Seen}
-use Rattle.service.specs.declared.rights.Rights.{Rights}
-use Rattle.service.specs.declared.rights.Service.{Service}
+use Rattle.causes.specs.declared.Cause.{Cause}
+use Rattle.carriage.specs.declared.Seen.{Seen}
+use Rattle.rights.specs.declared.Rights.{Rights}
+use Rattle.rights.specs.declared.Service.{Service}
 use Rattle.standing.specs.declared.Facilities.{Facilities}
 use Rattle.standing.specs.declared.Request.{Request}
 use Rattle.standing.specs.declared.Requests.{Requests}
 use Rattle.standing.specs.declared.Said.{Said}
 use Rattle.standing.specs.declared.Standing.{Standing}
 use Rattle.standing.specs.declared.Standings.{Standings}
-use Rattle.service.specs.Rights.{hasOf}
-use Rattle.service.specs.Cause.{notSubscribed}
-use Rattle.service.specs.Element.{wholeOf}
+use Rattle.rights.specs.Rights.{hasOf}
+use Rattle.causes.specs.Cause.{notSubscribed}
+use Rattle.carriage.specs.Element.{wholeOf}
 use Rattle.sent.specs.declared.Kind.{Kind}
 use Rattle.sent.specs.declared.Sent.{Sent}
 use Rattle.phases.specs.declared.Phase.{Phase}

@@ -30,7 +30,8 @@ use Rattle.plan.specs.declared.Looked.{Looked}
 use Rattle.exchange.specs.Halves.{lookOf, committed}
 use Rattle.exchange.proofs.Planned.{plan-told, plan-put}
 use Rattle.exchange.proofs.Promises.{one-place}
-use Rattle.fronts.specs.Fronts.{heardOf, frontOf, columnsOf, referenceIn, eventIn, plannedAt}
+use Rattle.fronts.specs.Fronts.{heardOf, frontOf, referenceIn, eventIn}
+use Rattle.entries.specs.Entries.{columnsOf, plannedAt}
 use Rattle.rerun.specs.Run.{turnedAt, lineAt, Ran, rests, ends, goes, runIn, runOf, soFar, WorkedOff}
 use Rattle.turns.specs.Turns.{halts}
 use Rattle.rerun.specs.Move.{sizeIn, textIn, beginning, moveIn, Moved}

@@ -16,7 +16,8 @@ use Rattle.trace.specs.Reading.{elementOf}
 use Rattle.report.specs.Line.{lineOf}
 use Rattle.notices.specs.Notices.{faultLine}
 use Rattle.fronts.specs.declared.Front.{Front}
-use Rattle.fronts.specs.Fronts.{frontOf, columnsOf}
+use Rattle.fronts.specs.Fronts.{frontOf}
+use Rattle.entries.specs.Entries.{columnsOf}
 use Rattle.rerun.specs.declared.Worked.{Worked}
 
 -- the table that an event leaves, and what it is answered

@@ -19,7 +19,7 @@ use Rattle.kinds.specs.declared.Kind.{Kind as LineKind}
 use Rattle.elements.specs.Meaning.{andSays, firstThree}
 use Rattle.octets.proofs.Promises.{alike}
 use Rattle.octets.proofs.Range.{range-fits}
-use Rattle.service.specs.declared.cause.Cause.{Cause}
+use Rattle.causes.specs.declared.Cause.{Cause}
 use Rattle.standing.specs.declared.Facilities.{Facilities}
 use Rattle.standing.specs.declared.Said.{Said}
 use Rattle.sent.specs.declared.Kind.{Kind}

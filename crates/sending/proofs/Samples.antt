@@ -1,8 +1,8 @@
 -- What is written for messages of real calls, computed.
 use mathlib.Core.Path.{refl}
 use Rattle.meter.specs.Meter.{emptyOf, meterFitsOf, grantedOf, countedOf, spentOf, markedOf, refilledOf, tickedOf, underThreeOf, passageOf}
-use Rattle.service.specs.Element.{wellFormedOf, seenOf, goesOutOf}
-use Rattle.service.specs.Rights.{rightsFitOf, referenceFitsOf, noRights}
+use Rattle.carriage.specs.Element.{wellFormedOf, seenOf, goesOutOf}
+use Rattle.rights.specs.Rights.{rightsFitOf, referenceFitsOf, noRights}
 use Rattle.standing.specs.Standing.{remainsOf, silence, silentAnswers, noServices}
 use Rattle.requests.specs.Requests.{firstStandingOf, standingsOf, lacksOf, passedRequestsOf, networkRefusalsOf, setupPhaseOf, toCallerOf, toCalledOf, setupCarriesOf}
 use Rattle.fates.specs.Fates.{failedOf, settlesOf, tellsOf, declinesOf, alertingFatesOf, connectFatesOf}

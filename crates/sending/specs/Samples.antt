@@ -10,8 +10,8 @@ use Rattle.message.specs.Reading.{userUserOf}
 use Rattle.standing.specs.declared.Given.{Given}
 use Rattle.standing.specs.declared.Request.{Request}
 use Rattle.sent.specs.declared.Sent.{Sent}
-use Rattle.rules.specs.declared.side.Side.{Side}
-use Rattle.call.specs.declared.Event.{Event}
+use Rattle.sides.specs.declared.Side.{Side}
+use Rattle.events.specs.declared.Event.{Event}
 use Rattle.call.specs.Sound.{freshCall}
 use Rattle.call.specs.Step.{stepOf}
 use Rattle.promises.specs.Sound.{Offered, runOf}

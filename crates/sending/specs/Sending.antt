@@ -21,16 +21,16 @@ use Rattle.elements.specs.Meaning.{andSays, firstThree}
 use Rattle.message.specs.Reading.{userUserOf}
 use Rattle.fitting.specs.Writing.{messageOctets}
 use Rattle.octets.specs.Promises.{highest, answerOf, bufferOf, Back}
-use Rattle.service.specs.declared.cause.Cause.{Cause}
+use Rattle.causes.specs.declared.Cause.{Cause}
 use Rattle.standing.specs.declared.Facilities.{Facilities}
 use Rattle.standing.specs.declared.Said.{Said}
 use Rattle.sent.specs.declared.Kind.{Kind}
 use Rattle.sent.specs.declared.Level.{Level}
 use Rattle.sent.specs.declared.Message.{Message}
 use Rattle.sent.specs.declared.Sent.{Sent}
-use Rattle.rules.specs.declared.side.Side.{Side}
+use Rattle.sides.specs.declared.Side.{Side}
 use Rattle.call.specs.declared.Call.{Call}
-use Rattle.call.specs.declared.Event.{Event}
+use Rattle.events.specs.declared.Event.{Event}
 use Rattle.call.specs.Step.{stepOf}
 use Rattle.promises.specs.Refusals.{sentTo}
 use Rattle.promises.specs.Handling.{handedIn}

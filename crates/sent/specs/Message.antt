@@ -1,13 +1,13 @@
 -- A message to one user: "At most one message goes to each user per event."
 use Prim.Native.Nat.{ℕ}
 use mathlib.Core.Bool.{Bool, true, false, cond}
-use Rattle.service.specs.declared.cause.Cause.{Cause}
+use Rattle.causes.specs.declared.Cause.{Cause}
 use Rattle.standing.specs.declared.Facilities.{Facilities}
 use Rattle.sent.specs.declared.Kind.{Kind}
 use Rattle.sent.specs.declared.Level.{Level}
 use Rattle.sent.specs.declared.Sent.{Sent}
 use Rattle.standing.specs.Standing.{silence}
-use Rattle.service.specs.Cause.{discarded}
+use Rattle.causes.specs.Cause.{discarded}
 
 -- "Nine types, hexadecimal: ALERTING 01, CALL PROCEEDING 02, SETUP 05, CONNECT 07, USER INFORMATION 20, DISCONNECT 45, RELEASE COMPLETE 5A,
 -- FACILITY 62, CONGESTION CONTROL 79."

@@ -1,8 +1,8 @@
 // A message to one user.
 ghost use mathlib.Core.Path.{_≡_};
 ghost use Rattle.sent.specs.Message.{kindNumberOf, sayingOf, bareOf, congestionOf, informsOf, onlyIfOf};
-use service::cause::Cause;
-use service::cause::DISCARDED;
+use causes::Cause;
+use causes::DISCARDED;
 use standing::Facilities;
 use standing::say_nothing;
 

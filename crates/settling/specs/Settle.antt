@@ -2,11 +2,11 @@
 use Prim.Native.Nat.{ℕ}
 use mathlib.Core.Bool.{Bool, true, false, cond}
 use mathlib.Core.List.{List}
-use Rattle.service.specs.declared.element.Note.{Note}
-use Rattle.rules.specs.declared.answer.Answer.{Answer}
+use Rattle.carriage.specs.declared.Note.{Note}
+use Rattle.numbers.specs.declared.Answer.{Answer}
 use Rattle.sent.specs.declared.Sent.{Sent}
 use Rattle.call.specs.declared.Call.{Call}
-use Rattle.call.specs.declared.Event.{Event}
+use Rattle.events.specs.declared.Event.{Event}
 use Rattle.call.specs.declared.reply.Reply.{Reply}
 use Rattle.call.specs.Sound.{freshCall}
 use Rattle.call.specs.Step.{stepOf}

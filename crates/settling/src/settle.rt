@@ -2,13 +2,13 @@
 ghost use mathlib.Core.Path.{_≡_};
 ghost use Rattle.settling.specs.Settle.{subjectOf, changesOf, keptOf, outcomeOf, refusalOf, settledOf};
 use call::Call;
-use call::Event;
 use call::reply::Reply;
+use carriage::Note;
 use choosing::choice::Verdict;
 use choosing::choice::opens;
-use rules::answer::Answer;
+use events::Event;
+use numbers::Answer;
 use sent::Sent;
-use service::element::Note;
 
 // calling and called: what is sent to the calling and to the called user.
 pub struct Outcome {

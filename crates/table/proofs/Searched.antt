@@ -9,9 +9,9 @@ use lib.ListN.{length, getD, drop, drop-of-length-le}
 use Rattle.call.specs.declared.Call.{Call}
 use Rattle.call.specs.Sound.{freshCall, soundOf}
 use Rattle.phases.specs.Phase.{liveOf}
-use Rattle.choosing.specs.Look.{liveAs, isAt, laterOf, faultOf}
+use Rattle.looking.specs.Look.{liveAs, isAt, laterOf, faultOf}
 use Rattle.table.specs.Table.{findFrom, heldIn, callsSound}
-use Rattle.choosing.specs.declared.look.Found.{Found}
+use Rattle.looking.specs.declared.Found.{Found}
 use Rattle.table.proofs.Along.{one-more, dropped}
 
 -- a record is found exactly if there is one

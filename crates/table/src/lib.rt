@@ -4,11 +4,11 @@ ghost use lib.ListN.{getD, drop};
 ghost use Rattle.call.specs.Sound.{freshCall};
 ghost use Rattle.table.specs.Table.{findFrom, placeFrom, callsSound, tableSound};
 use call::Call;
-use choosing::look::Found;
-use choosing::look::at_fault;
-use choosing::look::is_free;
-use choosing::look::is_live_as;
-use choosing::look::later;
+use looking::Found;
+use looking::at_fault;
+use looking::is_free;
+use looking::is_live_as;
+use looking::later;
 
 // Records that a table has at most.
 pub const GREATEST_TABLE: usize = 32;

@@ -4,8 +4,8 @@ use mathlib.Core.List.{List, []}
 use mathlib.Core.Bool.{Bool, true, false, cond, _&&_}
 use lib.ListN.{length, getD, take, drop}
 use lib.Dec.{ltb, leb, eqb}
-use Rattle.call.specs.declared.Event.{Event}
-use Rattle.service.specs.declared.rights.Rights.{Rights}
+use Rattle.events.specs.declared.Event.{Event}
+use Rattle.rights.specs.declared.Rights.{Rights}
 use Rattle.standing.specs.declared.Answers.{Answers}
 use Rattle.standing.specs.declared.Requests.{Requests}
 use Rattle.body.specs.declared.kind.Kind.{Kind}
@@ -14,7 +14,8 @@ use Rattle.trace.specs.declared.reading.Fault.{Fault}
 use Rattle.trace.specs.declared.reading.Entry.{Entry}
 use Rattle.trace.specs.declared.reading.Record.{Record}
 use Rattle.body.specs.Kind.{kindOf, sizeOf}
-use Rattle.body.specs.Field.{flagOf, sideOf, requestOf, givenOf, whatOf, fieldSize, fieldFitsOf}
+use Rattle.body.specs.Field.{fieldSize, fieldFitsOf}
+use Rattle.values.specs.Values.{flagOf, sideOf, requestOf, givenOf, whatOf}
 
 -- the paper's number for each fault
 abbrev pub faultNumber : Fault → ℕ

@@ -7,19 +7,19 @@ ghost use Rattle.body.specs.declared.kind.Kind.{Kind};
 ghost use Rattle.body.specs.declared.kind.Named.{Named};
 ghost use Rattle.trace.specs.Reading.{referenceOf, threeFitOf, fieldAtOf, placeOf, setupRangedOf, answeringRangedOf, informationRangedOf, facilityRangedOf, disconnectRangedOf, rangedOf, rightsOf, namedOf, requestsOf, answersOf, eventOf, countOf, entryOf, recordOf, elementOf};
 use body::field::field_fits;
-use body::field::flag_in;
-use body::field::given_in;
-use body::field::request_in;
-use body::field::side_in;
-use body::field::what_in;
 use body::kind::Kind;
 use body::kind::Named;
 use body::kind::kind_in;
 use body::kind::size;
-use call::Event;
-use service::rights::Rights;
+use events::Event;
+use rights::Rights;
 use standing::Answers;
 use standing::Requests;
+use values::flag_in;
+use values::given_in;
+use values::request_in;
+use values::side_in;
+use values::what_in;
 
 // Why a trace goes on no further: an unknown kind, a record that is cut short, a field out of range.
 pub enum Fault {

@@ -6,8 +6,8 @@ use Rattle.rerun.proofs.record_turn.Tie as tie
 use Rattle.rerun.proofs.record_turn.Reads as reads
 use Rattle.rerun.proofs.record_turn.Lts as lts
 use Rattle.body.proofs.kind.size.Reads as size-reads
-use Rattle.fronts.proofs.columns_of.Reads as columns-of-reads
-use Rattle.fronts.proofs.planned.Reads as planned-reads
+use Rattle.entries.proofs.columns_of.Reads as columns-of-reads
+use Rattle.entries.proofs.planned.Reads as planned-reads
 use Rattle.report.proofs.write_line.Reads as write-line-reads
 use Rattle.turns.proofs.once_written.Reads as once-written-reads
 

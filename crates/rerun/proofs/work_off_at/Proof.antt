@@ -44,10 +44,10 @@ use denote.Triple.Table.{entered, cited}
 use denote.Triple.Walked.{says, Stays, stay-slice, stay-dropped, walkOf, goes-slice, goes-dropped, walked, walk-meets}
 use denote.Exit.{yes}
 use Rattle.call.specs.declared.Call.{Call}
-use Rattle.call.specs.declared.Event.{Event}
+use Rattle.events.specs.declared.Event.{Event}
 use Rattle.call.proofs.Call as T
-use Rattle.call.proofs.Event as E
-use Rattle.call.proofs.Event.Laws as E′
+use Rattle.events.proofs.Event as E
+use Rattle.events.proofs.Event.Laws as E′
 use Rattle.exchange.specs.Halves.{lookOf, committed}
 use Rattle.plan.specs.declared.Looked.{Looked}
 use Rattle.plan.specs.declared.Put.{Put}

@@ -50,31 +50,31 @@ use Rattle.call.specs.Sound.{freshCall, soundOf}
 use Rattle.phases.specs.Phase.{liveOf}
 use Rattle.call.proofs.Call as T
 use Rattle.call.proofs.Call.Laws as T′
-use Rattle.choosing.specs.Look.{laterOf, faultOf}
+use Rattle.looking.specs.Look.{laterOf, faultOf}
 use Rattle.table.specs.Table.{findFrom, heldIn, callsSound}
-use Rattle.choosing.specs.declared.look.Found.{Found}
+use Rattle.looking.specs.declared.Found.{Found}
 use Rattle.table.proofs.Arms.{skips-to}
 use Rattle.table.proofs.Ends.{full, forgets, frees-all}
 use Rattle.meter.proofs.Plainly.{pre-plain, calls-told, calls-plain, leaves}
 use Rattle.table.proofs.Searched.{alone-at, sounds, fault-says, stops, goes-on}
-use Rattle.choosing.proofs.look.Found as U
-use Rattle.choosing.proofs.look.Found.Laws as U′
+use Rattle.looking.proofs.Found as U
+use Rattle.looking.proofs.Found.Laws as U′
 use Rattle.table.proofs.call_at as g
 use Rattle.table.proofs.call_at.Symbol as g-def
 use Rattle.table.proofs.call_at.Symbol.{name as #g}
 use Rattle.table.proofs.call_at.Met as g-thm
-use Rattle.choosing.proofs.look.later as m
-use Rattle.choosing.proofs.look.later.Symbol as m-def
-use Rattle.choosing.proofs.look.later.Symbol.{name as #m}
-use Rattle.choosing.proofs.look.later.Met as m-thm
+use Rattle.looking.proofs.later as m
+use Rattle.looking.proofs.later.Symbol as m-def
+use Rattle.looking.proofs.later.Symbol.{name as #m}
+use Rattle.looking.proofs.later.Met as m-thm
 use Rattle.table.proofs.find_from as s
 use Rattle.table.proofs.find_from.Symbol as s-def
 use Rattle.table.proofs.find_from.Symbol.{name as #s}
 use Rattle.table.proofs.find_from.Met as s-thm
-use Rattle.choosing.proofs.look.at_fault as p
-use Rattle.choosing.proofs.look.at_fault.Symbol as p-def
-use Rattle.choosing.proofs.look.at_fault.Symbol.{name as #p}
-use Rattle.choosing.proofs.look.at_fault.Met as p-thm
+use Rattle.looking.proofs.at_fault as p
+use Rattle.looking.proofs.at_fault.Symbol as p-def
+use Rattle.looking.proofs.at_fault.Symbol.{name as #p}
+use Rattle.looking.proofs.at_fault.Met as p-thm
 use Rattle.table.proofs.calls_sound.Key.{name as #f}
 use Rattle.table.proofs.calls_sound as f
 use Rattle.table.proofs.calls_sound.Statement as stated
@@ -298,6 +298,6 @@ calls-sound-spec 𝓤 H 𝓜 𝓖 𝓡 =
     (tables 𝓤 H 𝓜 𝓡 code.env .C) (tables 𝓤 H 𝓜 𝓡 code.env .Λ) #f code.function (code.unfolded 𝓤 H 𝓜 𝓡)
     (meets 𝓤 H (𝓖 .A) (givenOf 𝓤 H 𝓜 𝓖) (𝓜 .mem) (𝓡 .run) (tablesOf 𝓤 H 𝓜 (tables 𝓤 H 𝓜 𝓡 code.env))
     (cited 𝓤 H (G 𝓤 H (𝓖 .A) (𝓜 .mem) (𝓡 .run)) 𝓜 𝓡 code.env #g g-def.routine code.calls-table·call-at (g-thm.met 𝓤 H 𝓜 𝓖 𝓡))
-    (cited 𝓤 H (L 𝓤 H (𝓖 .A) (𝓜 .mem) (𝓡 .run)) 𝓜 𝓡 code.env #m m-def.routine code.calls-choosing·look·later (m-thm.met 𝓤 H 𝓜 𝓖 𝓡))
+    (cited 𝓤 H (L 𝓤 H (𝓖 .A) (𝓜 .mem) (𝓡 .run)) 𝓜 𝓡 code.env #m m-def.routine code.calls-looking·later (m-thm.met 𝓤 H 𝓜 𝓖 𝓡))
     (cited 𝓤 H (S 𝓤 H (𝓖 .A) (𝓜 .mem) (𝓡 .run)) 𝓜 𝓡 code.env #s s-def.routine code.calls-table·find-from (s-thm.met 𝓤 H 𝓜 𝓖 𝓡))
-    (cited 𝓤 H (P 𝓤 H (𝓖 .A) (𝓜 .mem) (𝓡 .run)) 𝓜 𝓡 code.env #p p-def.routine code.calls-choosing·look·at-fault (p-thm.met 𝓤 H 𝓜 𝓖 𝓡)))
+    (cited 𝓤 H (P 𝓤 H (𝓖 .A) (𝓜 .mem) (𝓡 .run)) 𝓜 𝓡 code.env #p p-def.routine code.calls-looking·at-fault (p-thm.met 𝓤 H 𝓜 𝓖 𝓡)))

@@ -49,24 +49,24 @@ use Rattle.call.specs.declared.Call.{Call}
 use Rattle.call.specs.Sound.{freshCall}
 use Rattle.call.proofs.Call as T
 use Rattle.call.proofs.Call.Laws as T′
-use Rattle.choosing.specs.Look.{liveAs}
+use Rattle.looking.specs.Look.{liveAs}
 use Rattle.table.specs.Table.{findFrom}
-use Rattle.choosing.specs.declared.look.Found.{Found}
-use Rattle.choosing.specs.declared.look.Found.the-variants.{At, Nothing}
+use Rattle.looking.specs.declared.Found.{Found}
+use Rattle.looking.specs.declared.Found.the-variants.{At, Nothing}
 use Rattle.table.proofs.Arms.{skips-to}
 use Rattle.table.proofs.Ends.{full, forgets, frees-all}
 use Rattle.meter.proofs.Plainly.{pre-plain, calls-told, calls-plain, leaves}
 use Rattle.table.proofs.Along.{one-more, dropped}
-use Rattle.choosing.proofs.look.Found as U
-use Rattle.choosing.proofs.look.Found.Laws as U′
+use Rattle.looking.proofs.Found as U
+use Rattle.looking.proofs.Found.Laws as U′
 use Rattle.table.proofs.call_at as g
 use Rattle.table.proofs.call_at.Symbol as g-def
 use Rattle.table.proofs.call_at.Symbol.{name as #g}
 use Rattle.table.proofs.call_at.Met as g-thm
-use Rattle.choosing.proofs.look.is_live_as as p
-use Rattle.choosing.proofs.look.is_live_as.Symbol as p-def
-use Rattle.choosing.proofs.look.is_live_as.Symbol.{name as #p}
-use Rattle.choosing.proofs.look.is_live_as.Met as p-thm
+use Rattle.looking.proofs.is_live_as as p
+use Rattle.looking.proofs.is_live_as.Symbol as p-def
+use Rattle.looking.proofs.is_live_as.Symbol.{name as #p}
+use Rattle.looking.proofs.is_live_as.Met as p-thm
 use Rattle.table.proofs.find_from.Key.{name as #f}
 use Rattle.table.proofs.find_from as f
 use Rattle.table.proofs.find_from.Statement as stated
@@ -273,4 +273,4 @@ find-from-spec 𝓤 H 𝓜 𝓖 𝓡 =
     (tables 𝓤 H 𝓜 𝓡 code.env .C) (tables 𝓤 H 𝓜 𝓡 code.env .Λ) #f code.function (code.unfolded 𝓤 H 𝓜 𝓡)
     (meets 𝓤 H (𝓖 .A) (givenOf 𝓤 H 𝓜 𝓖) (𝓜 .mem) (𝓡 .run) (tablesOf 𝓤 H 𝓜 (tables 𝓤 H 𝓜 𝓡 code.env))
     (cited 𝓤 H (G 𝓤 H (𝓖 .A) (𝓜 .mem) (𝓡 .run)) 𝓜 𝓡 code.env #g g-def.routine code.calls-table·call-at (g-thm.met 𝓤 H 𝓜 𝓖 𝓡))
-    (cited 𝓤 H (P 𝓤 H (𝓖 .A) (𝓜 .mem) (𝓡 .run)) 𝓜 𝓡 code.env #p p-def.routine code.calls-choosing·look·is-live-as (p-thm.met 𝓤 H 𝓜 𝓖 𝓡)))
+    (cited 𝓤 H (P 𝓤 H (𝓖 .A) (𝓜 .mem) (𝓡 .run)) 𝓜 𝓡 code.env #p p-def.routine code.calls-looking·is-live-as (p-thm.met 𝓤 H 𝓜 𝓖 𝓡)))

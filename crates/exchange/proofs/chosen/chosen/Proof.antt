@@ -36,19 +36,19 @@ use denote.Triple.Table.{entered, cited}
 use denote.Triple.Walked.{Stays, stay-dropped, walkOf, goes-dropped, walked, walk-meets}
 use denote.Exit.{yes}
 use Rattle.call.specs.declared.Call.{Call}
-use Rattle.call.specs.declared.Event.{Event}
+use Rattle.events.specs.declared.Event.{Event}
 use Rattle.call.proofs.Call as T
-use Rattle.call.proofs.Event as E
-use Rattle.call.proofs.Event.Laws as E′
+use Rattle.events.proofs.Event as E
+use Rattle.events.proofs.Event.Laws as E′
 use Rattle.table.specs.Table.{tableSound, findFrom, placeFrom}
 use Rattle.exchange.specs.Chosen.{chosenOf}
 use Rattle.choosing.specs.Choice.{referenceOf, chooseOf}
-use Rattle.choosing.specs.declared.look.Found.{Found}
+use Rattle.looking.specs.declared.Found.{Found}
 use Rattle.choosing.specs.declared.choice.Choice.{Choice}
 use Rattle.table.proofs.Ends.{full, forgets, frees-all}
 use Rattle.meter.proofs.Plainly.{pre-plain, calls-told, calls-plain, leaves}
-use Rattle.choosing.proofs.look.Found as U
-use Rattle.choosing.proofs.look.Found.Laws as U′
+use Rattle.looking.proofs.Found as U
+use Rattle.looking.proofs.Found.Laws as U′
 use Rattle.choosing.proofs.choice.Choice as R
 use Rattle.choosing.proofs.choice.Choice.Laws as R′
 use Rattle.choosing.proofs.choice.reference_of as g

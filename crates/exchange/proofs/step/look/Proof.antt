@@ -42,12 +42,12 @@ use denote.Triple.Table.{entered, cited}
 use denote.Triple.Walked.{Stays, stay-dropped, walkOf, goes-dropped, walked, walk-meets}
 use denote.Exit.{yes}
 use Rattle.call.specs.declared.Call.{Call}
-use Rattle.call.specs.declared.Event.{Event}
+use Rattle.events.specs.declared.Event.{Event}
 use Rattle.call.specs.Sound.{freshCall}
 use Rattle.call.proofs.Call as T
 use Rattle.call.proofs.Call.Laws as T′
-use Rattle.call.proofs.Event as E
-use Rattle.call.proofs.Event.Laws as E′
+use Rattle.events.proofs.Event as E
+use Rattle.events.proofs.Event.Laws as E′
 use Rattle.exchange.specs.Chosen.{chosenOf}
 use Rattle.exchange.specs.Halves.{lookAt, lookOf}
 use Rattle.choosing.specs.declared.choice.Choice.{Choice}

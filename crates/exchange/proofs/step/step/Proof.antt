@@ -40,12 +40,12 @@ use denote.Triple.Table.{entered, cited}
 use denote.Triple.Walked.{Stays, stay-slice, stay-dropped, walkOf, goes-slice, goes-dropped, walked, walk-meets}
 use denote.Exit.{yes}
 use Rattle.call.specs.declared.Call.{Call}
-use Rattle.call.specs.declared.Event.{Event}
+use Rattle.events.specs.declared.Event.{Event}
 use Rattle.call.proofs.Call as T
-use Rattle.call.proofs.Event as E
-use Rattle.call.proofs.Event.Laws as E′
+use Rattle.events.proofs.Event as E
+use Rattle.events.proofs.Event.Laws as E′
 use Rattle.exchange.specs.Halves.{lookOf, committed}
-use Rattle.plan.specs.Plan.{planOf}
+use Rattle.deciding.specs.Decided.{planOf}
 use Rattle.exchange.specs.Step.{stepOutcome, stepTable}
 use Rattle.plan.specs.declared.Looked.{Looked}
 use Rattle.plan.specs.declared.Plan.{Plan}
@@ -68,10 +68,10 @@ use Rattle.exchange.proofs.step.look as g
 use Rattle.exchange.proofs.step.look.Symbol as g-def
 use Rattle.exchange.proofs.step.look.Symbol.{name as #g}
 use Rattle.exchange.proofs.step.look.Met as g-thm
-use Rattle.plan.proofs.plans as p
-use Rattle.plan.proofs.plans.Symbol as p-def
-use Rattle.plan.proofs.plans.Symbol.{name as #p}
-use Rattle.plan.proofs.plans.Met as p-thm
+use Rattle.deciding.proofs.plans as p
+use Rattle.deciding.proofs.plans.Symbol as p-def
+use Rattle.deciding.proofs.plans.Symbol.{name as #p}
+use Rattle.deciding.proofs.plans.Met as p-thm
 use Rattle.plan.proofs.put_of as d
 use Rattle.plan.proofs.put_of.Symbol as d-def
 use Rattle.plan.proofs.put_of.Symbol.{name as #d}
@@ -273,7 +273,7 @@ step-spec 𝓤 H 𝓜 𝓖 𝓡 =
     (tables 𝓤 H 𝓜 𝓡 code.env .C) (tables 𝓤 H 𝓜 𝓡 code.env .Λ) #f code.function (code.unfolded 𝓤 H 𝓜 𝓡)
     (meets 𝓤 H (𝓖 .A) (givenOf 𝓤 H 𝓜 𝓖) (𝓜 .mem) (𝓡 .run) (tablesOf 𝓤 H 𝓜 (tables 𝓤 H 𝓜 𝓡 code.env))
     (cited 𝓤 H (G 𝓤 H (𝓖 .A) (𝓜 .mem) (𝓡 .run)) 𝓜 𝓡 code.env #g g-def.routine code.calls-exchange·step·look (g-thm.met 𝓤 H 𝓜 𝓖 𝓡))
-    (cited 𝓤 H (P 𝓤 H (𝓖 .A) (𝓜 .mem) (𝓡 .run)) 𝓜 𝓡 code.env #p p-def.routine code.calls-plan·plans (p-thm.met 𝓤 H 𝓜 𝓖 𝓡))
+    (cited 𝓤 H (P 𝓤 H (𝓖 .A) (𝓜 .mem) (𝓡 .run)) 𝓜 𝓡 code.env #p p-def.routine code.calls-deciding·plans (p-thm.met 𝓤 H 𝓜 𝓖 𝓡))
     (cited 𝓤 H (D 𝓤 H (𝓖 .A) (𝓜 .mem) (𝓡 .run)) 𝓜 𝓡 code.env #d d-def.routine code.calls-plan·put-of (d-thm.met 𝓤 H 𝓜 𝓖 𝓡))
     (cited 𝓤 H (K 𝓤 H (𝓖 .A) (𝓜 .mem) (𝓡 .run)) 𝓜 𝓡 code.env #c c-def.routine code.calls-exchange·step·commit (c-thm.met 𝓤 H 𝓜 𝓖 𝓡))
     (cited 𝓤 H (L 𝓤 H (𝓖 .A) (𝓜 .mem) (𝓡 .run)) 𝓜 𝓡 code.env #m m-def.routine code.calls-plan·told (m-thm.met 𝓤 H 𝓜 𝓖 𝓡)))

@@ -4,7 +4,7 @@ use Rattle.trace.proofs.reading.answers.Statement.{statement}
 use Rattle.trace.proofs.reading.answers.Tie as tie
 use Rattle.trace.proofs.reading.answers.Reads as reads
 use Rattle.trace.proofs.reading.answers.Lts as lts
-use Rattle.body.proofs.field.given_in.Reads as given-in-reads
+use Rattle.values.proofs.given_in.Reads as given-in-reads
 
 given-in-requires : tie.Need-given-in-requires
 given-in-requires c κs = search needs

@@ -4,8 +4,8 @@ use Rattle.trace.proofs.reading.event.Statement.{statement}
 use Rattle.trace.proofs.reading.event.Tie as tie
 use Rattle.trace.proofs.reading.event.Reads as reads
 use Rattle.trace.proofs.reading.event.Lts as lts
-use Rattle.body.proofs.field.side_in.Reads as side-in-reads
-use Rattle.body.proofs.field.what_in.Reads as what-in-reads
+use Rattle.values.proofs.side_in.Reads as side-in-reads
+use Rattle.values.proofs.what_in.Reads as what-in-reads
 use Rattle.trace.proofs.reading.answers.Reads as answers-reads
 use Rattle.trace.proofs.reading.setup_event.Reads as setup-event-reads
 

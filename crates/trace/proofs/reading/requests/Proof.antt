@@ -4,7 +4,7 @@ use Rattle.trace.proofs.reading.requests.Statement.{statement}
 use Rattle.trace.proofs.reading.requests.Tie as tie
 use Rattle.trace.proofs.reading.requests.Reads as reads
 use Rattle.trace.proofs.reading.requests.Lts as lts
-use Rattle.body.proofs.field.request_in.Reads as request-in-reads
+use Rattle.values.proofs.request_in.Reads as request-in-reads
 
 request-in-requires : tie.Need-request-in-requires
 request-in-requires c κs = search needs

@@ -4,7 +4,7 @@ use Rattle.trace.proofs.reading.rights.Statement.{statement}
 use Rattle.trace.proofs.reading.rights.Tie as tie
 use Rattle.trace.proofs.reading.rights.Reads as reads
 use Rattle.trace.proofs.reading.rights.Lts as lts
-use Rattle.body.proofs.field.flag_in.Reads as flag-in-reads
+use Rattle.values.proofs.flag_in.Reads as flag-in-reads
 use Rattle.trace.proofs.reading.burst.Reads as burst-reads
 
 shared-slice-read-t3 : tie.Need-shared-slice-read-t3

@@ -1,0 +1,45 @@
+// One record of a table, looked at by value.
+ghost use mathlib.Core.Path.{_≡_};
+ghost use Rattle.looking.specs.Look.{liveAs, freeOf, isAt, faultOf, laterOf};
+use call::Call;
+
+// The place of a record, or that there is none.
+pub enum Found {
+    At(usize),
+    Nothing,
+}
+
+pub fn is_live_as(c: Call, reference: u16) -> bool
+    ensures { λ r. ⌜ r ≡ liveAs c reference ⌝ }
+{
+    c.live() & (c.reference == reference)
+}
+
+pub fn is_free(c: Call) -> bool
+    ensures { λ r. ⌜ r ≡ freeOf c ⌝ }
+{
+    !c.live()
+}
+
+fn is_at(f: Found) -> bool
+    ensures { λ r. ⌜ r ≡ isAt f ⌝ }
+{
+    match f {
+        Found::At(i) => true,
+        Found::Nothing => false,
+    }
+}
+
+// f: where a later live record has the reference of c.
+pub fn at_fault(c: Call, f: Found) -> bool
+    ensures { λ r. ⌜ r ≡ faultOf c f ⌝ }
+{
+    if c.sound() { is_at(f) } else { true }
+}
+
+// Where to look for another record of the same reference: nowhere, if the record is not live.
+pub fn later(c: Call, next: usize, end: usize) -> usize
+    ensures { λ r. ⌜ r ≡ laterOf c next end ⌝ }
+{
+    if c.live() { next } else { end }
+}

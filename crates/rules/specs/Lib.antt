@@ -1,3 +1,0 @@
-pub mod Side
-pub mod Answer
-pub mod Serving
