@@ -1,5 +1,5 @@
 -- Service 3 asked for while connected.
-use mathlib.Core.Bool.{Bool, true, false, cond, _&&_}
+use mathlib.Core.Bool.{Bool, true, false, cond, _&&_, _||_, not}
 use Rattle.rights.specs.declared.Rights.{Rights}
 use Rattle.rights.specs.declared.Service.{Service}
 use Rattle.standing.specs.declared.Said.{Said}
@@ -9,11 +9,12 @@ use Rattle.asking.specs.declared.Asking.{Asking}
 use Rattle.asking.specs.declared.What.{What}
 use Rattle.sides.specs.declared.Side.{Side}
 use Rattle.rights.specs.Rights.{hasOf}
+use Rattle.numbers.specs.Answer.{takenOf}
 use Rattle.sides.specs.Side.{peerOf}
 use Rattle.causes.specs.declared.Cause.{Cause}
 use Rattle.sent.specs.declared.Kind.{Kind}
 use Rattle.sent.specs.declared.Sent.{Sent}
-use Rattle.sent.specs.Message.{sayingOf}
+use Rattle.sent.specs.Message.{sayingOf, onlyIfOf}
 
 unfoldable pub nobodyAsks : Asking
 nobodyAsks = record { calling = false; called = false }
@@ -46,6 +47,14 @@ facilityAnswerOf What.Preferred request answer = request
 facilityAnswerOf What.Accept request answer = answer
 facilityAnswerOf What.Reject request answer = answer
 facilityAnswerOf What.Required request answer = Answer.AskedRequired
+
+-- "for a request 18, 16, 15; for an answer 15". Number 15: "service 3 in force, asker's own request open, or an answer with no open request of
+-- the other side".
+abbrev pub verdictOf : Rights → Asking → Bool → Side → What → Answer
+verdictOf r a force side what =
+    facilityAnswerOf what
+    (toRequestOf (mayAskOf r side) (force || asksOf a side))
+    (toAnswerOf (force || not (asksOf a (peerOf side))))
 
 -- what is passed to the other user
 abbrev pub facilitySaidOf : What → Said
@@ -85,3 +94,11 @@ notGrantedOf Answer.Unsound = false
 -- FACILITY that says one thing of service 3
 unfoldable pub aboutThreeOf : Said → Sent
 aboutThreeOf s = sayingOf Kind.Facility Cause.Absent (record { one = Said.Nothing; two = Said.Nothing; three = s }) false
+
+-- "16 sends the asker FACILITY with rejectedByNetwork"
+abbrev pub toAskerOf : Answer → Sent
+toAskerOf verdict = onlyIfOf (notGrantedOf verdict) (aboutThreeOf Said.ByNetwork)
+
+-- "Request, accept or reject for service 3, passed to the other user when taken"
+abbrev pub toOtherOf : Answer → What → Sent
+toOtherOf verdict what = onlyIfOf (takenOf verdict) (aboutThreeOf (facilitySaidOf what))

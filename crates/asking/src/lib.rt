@@ -1,13 +1,15 @@
 // Service 3 asked for while connected: who may ask, who has asked, and what is answered.
 ghost use mathlib.Core.Path.{_≡_};
-ghost use Rattle.asking.specs.Asking.{nobodyAsks, asksOf, withAskOf, mayAskOf, toRequestOf, toAnswerOf, facilityAnswerOf, facilitySaidOf, facilityAskingOf, facilityThreeOf, notGrantedOf, aboutThreeOf};
+ghost use Rattle.asking.specs.Asking.{nobodyAsks, asksOf, withAskOf, mayAskOf, toRequestOf, toAnswerOf, verdictOf, facilitySaidOf, facilityAskingOf, facilityThreeOf, notGrantedOf, aboutThreeOf, toAskerOf, toOtherOf};
 use causes::Cause;
 use numbers::Answer;
+use numbers::taken;
 use rights::Rights;
 use rights::Service;
 use rights::has;
 use sent::Kind;
 use sent::Sent;
+use sent::only_if;
 use sent::saying;
 use sides::Side;
 use sides::peer;
@@ -39,7 +41,7 @@ pub fn nobody_asks() -> Asking
 }
 
 // Whether a side's own request is open.
-pub fn asks(a: Asking, side: Side) -> bool
+fn asks(a: Asking, side: Side) -> bool
     ensures { λ r. ⌜ r ≡ asksOf a side ⌝ }
 {
     match side {
@@ -63,7 +65,7 @@ fn with_ask(a: Asking, side: Side, b: bool) -> Asking
     }
 }
 
-pub fn may_ask(r: Rights, side: Side) -> bool
+fn may_ask(r: Rights, side: Side) -> bool
     ensures { λ b. ⌜ b ≡ mayAskOf r side ⌝ }
 {
     match side {
@@ -73,7 +75,7 @@ pub fn may_ask(r: Rights, side: Side) -> bool
 }
 
 // 16, then 15.
-pub fn to_request(may: bool, shut: bool) -> Answer
+fn to_request(may: bool, shut: bool) -> Answer
     ensures { λ r. ⌜ r ≡ toRequestOf may shut ⌝ }
 {
     if may {
@@ -83,24 +85,25 @@ pub fn to_request(may: bool, shut: bool) -> Answer
     }
 }
 
-pub fn to_answer(shut: bool) -> Answer
+fn to_answer(shut: bool) -> Answer
     ensures { λ r. ⌜ r ≡ toAnswerOf shut ⌝ }
 {
     if shut { Answer::NotOpen } else { Answer::Taken }
 }
 
-pub fn facility_answer(what: What, request: Answer, answer: Answer) -> Answer
-    ensures { λ r. ⌜ r ≡ facilityAnswerOf what request answer ⌝ }
+// `force` says whether service 3 is in force.
+pub fn verdict(r: Rights, a: Asking, force: bool, side: Side, what: What) -> Answer
+    ensures { λ v. ⌜ v ≡ verdictOf r a force side what ⌝ }
 {
     match what {
-        What::Preferred => request,
-        What::Accept => answer,
-        What::Reject => answer,
+        What::Preferred => to_request(may_ask(r, side), force | asks(a, side)),
+        What::Accept => to_answer(force | !asks(a, peer(side))),
+        What::Reject => to_answer(force | !asks(a, peer(side))),
         What::Required => Answer::AskedRequired,
     }
 }
 
-pub fn facility_said(what: What) -> Said
+fn facility_said(what: What) -> Said
     ensures { λ r. ⌜ r ≡ facilitySaidOf what ⌝ }
 {
     match what {
@@ -134,7 +137,7 @@ pub fn facility_three(s: Standing, what: What) -> Standing
     }
 }
 
-pub fn not_granted(a: Answer) -> bool
+fn not_granted(a: Answer) -> bool
     ensures { λ r. ⌜ r ≡ notGrantedOf a ⌝ }
 {
     match a {
@@ -153,7 +156,7 @@ pub fn not_granted(a: Answer) -> bool
 }
 
 // FACILITY about service 3.
-pub fn about_three(s: Said) -> Sent
+fn about_three(s: Said) -> Sent
     ensures { λ r. ⌜ r ≡ aboutThreeOf s ⌝ }
 {
     saying(
@@ -166,4 +169,18 @@ pub fn about_three(s: Said) -> Sent
         },
         false,
     )
+}
+
+// The asker is told of 16.
+pub fn to_asker(verdict: Answer) -> Sent
+    ensures { λ s. ⌜ s ≡ toAskerOf verdict ⌝ }
+{
+    only_if(not_granted(verdict), about_three(Said::ByNetwork))
+}
+
+// What is taken goes on to the other user.
+pub fn to_other(verdict: Answer, what: What) -> Sent
+    ensures { λ s. ⌜ s ≡ toOtherOf verdict what ⌝ }
+{
+    only_if(taken(verdict), about_three(facility_said(what)))
 }

@@ -6,19 +6,16 @@ use Rattle.meter.specs.declared.Passage.{Passage}
 use Rattle.carriage.specs.declared.Note.{Note}
 use Rattle.carriage.specs.declared.Seen.{Seen}
 use Rattle.numbers.specs.declared.Answer.{Answer}
-use Rattle.sent.specs.declared.Level.{Level}
 use Rattle.sides.specs.declared.Side.{Side}
 use Rattle.call.specs.declared.Call.{Call}
 use Rattle.meters.specs.declared.Meters.{Meters}
 use Rattle.call.specs.declared.reply.Reply.{Reply}
-use Rattle.meter.specs.Meter.{passageOf, afterOf}
 use Rattle.standing.specs.Standing.{inForceOf}
 use Rattle.carriage.specs.Element.{seenOf, wholeOf, notedOf}
-use Rattle.sent.specs.Message.{congestionOf, informsOf, onlyIfOf}
 use Rattle.phases.specs.Phase.{talkingOf}
-use Rattle.serving.specs.Serving.{lateOf, servesTwoOf, servesThreeOf, passageAnswerOf, passesOf, marksOf}
+use Rattle.serving.specs.Serving.{servedOf, passageAnswerOf, toSenderOf, toReceiverOf}
 use Rattle.call.specs.Reply.{barOf, refusedOf, heardOf, replyOf}
-use Rattle.meters.specs.Meters.{meterOf, withMeterOf}
+use Rattle.meters.specs.Meters.{meterOf, spentOf}
 
 -- the record with other meters
 unfoldable pub metersOf : Call → Meters → Call
@@ -35,15 +32,14 @@ metersOf c m =
 -- what a side's message meets in its meter
 unfoldable pub informationPassageOf : Call → Side → Passage
 informationPassageOf c side =
-    passageOf (meterOf (c .meters) side)
-    (servesTwoOf (c .phase) (inForceOf (c .standings .two)) (lateOf side (c .rights .late)))
-    (servesThreeOf (c .phase) (inForceOf (c .standings .three)))
+    servedOf (meterOf (c .meters) side) (c .phase) side (c .rights .late)
+    (inForceOf (c .standings .two))
+    (inForceOf (c .standings .three))
 
--- A message that passes goes on to the other side; "14 may set the not-ready mark and send CONGESTION CONTROL" to the sender.
+-- what the passage makes of the call, and the messages
 unfoldable pub carriedOf : Call → Side → Bool → Passage → Reply
 carriedOf c side more p =
-    replyOf side (metersOf c (withMeterOf (c .meters) side (afterOf (meterOf (c .meters) side) p))) (passageAnswerOf p) Note.Clear
-    (onlyIfOf (marksOf p) (congestionOf Level.NotReady)) (onlyIfOf (passesOf p) (informsOf more))
+    replyOf side (metersOf c (spentOf (c .meters) side p)) (passageAnswerOf p) Note.Clear (toSenderOf p) (toReceiverOf p more)
 
 -- "17 USER INFORMATION, element absent, under 3 octets or over the limit", "which note 1 also brings". It has the element's note.
 unfoldable pub withElementOf : Call → Seen → Reply → Reply

@@ -7,26 +7,17 @@ use crate::reply::barred;
 use crate::reply::heard;
 use crate::reply::reply_to;
 use asking::What;
-use asking::about_three;
-use asking::asks;
-use asking::facility_answer;
 use asking::facility_asking;
-use asking::facility_said;
 use asking::facility_three;
-use asking::may_ask;
-use asking::not_granted;
-use asking::to_answer;
-use asking::to_request;
+use asking::to_asker;
+use asking::to_other;
+use asking::verdict;
 use carriage::Note;
 use meters::facility_meters;
 use numbers::Answer;
 use numbers::taken;
 use phases::is_active;
-use sent::Sent;
-use sent::only_if;
 use sides::Side;
-use sides::peer;
-use standing::Said;
 use standing::Standings;
 use standing::in_force;
 
@@ -37,10 +28,7 @@ fn facility_verdict(c: Call, side: Side, what: What) -> Answer
     let asking = c.asking;
     let standings = c.standings;
     let three = standings.three;
-    let force = in_force(three);
-    let request = to_request(may_ask(rights, side), force | asks(asking, side));
-    let answer = to_answer(force | !asks(asking, peer(side)));
-    facility_answer(what, request, answer)
+    verdict(rights, asking, in_force(three), side, what)
 }
 
 fn facility_call(c: Call, side: Side, what: What) -> Call
@@ -71,18 +59,13 @@ fn facility_call(c: Call, side: Side, what: What) -> Call
 fn passes_facility(c: Call, side: Side, what: What, verdict: Answer) -> Reply
     ensures { λ r. ⌜ r ≡ passesFacilityOf c side what verdict ⌝ }
 {
-    let refusal = only_if(not_granted(verdict), about_three(Said::ByNetwork));
+    let back = to_asker(verdict);
+    let on = to_other(verdict, what);
     if taken(verdict) {
-        reply_to(
-            side,
-            facility_call(c, side, what),
-            verdict,
-            Note::Clear,
-            refusal,
-            about_three(facility_said(what)),
-        )
+        let next = facility_call(c, side, what);
+        reply_to(side, next, verdict, Note::Clear, back, on)
     } else {
-        reply_to(side, c, verdict, Note::Clear, refusal, Sent::Absent)
+        reply_to(side, c, verdict, Note::Clear, back, on)
     }
 }
 

@@ -13,27 +13,19 @@ use carriage::look;
 use carriage::noted;
 use carriage::whole;
 use meter::Passage;
-use meter::after;
-use meter::passage_of;
 use meters::Meters;
 use meters::meter_of;
-use meters::with_meter;
+use meters::spent;
 use numbers::Answer;
 use phases::is_talking;
-use sent::Level;
-use sent::congestion;
-use sent::informs;
-use sent::only_if;
-use serving::late;
-use serving::marks;
 use serving::passage_answer;
-use serving::passes;
-use serving::serves_three;
-use serving::serves_two;
+use serving::served;
+use serving::to_receiver;
+use serving::to_sender;
 use sides::Side;
 use standing::in_force;
 
-pub fn with_meters(c: Call, m: Meters) -> Call
+pub(crate) fn with_meters(c: Call, m: Meters) -> Call
     ensures { λ r. ⌜ r ≡ metersOf c m ⌝ }
 {
     let rights = c.rights;
@@ -60,10 +52,13 @@ fn information_passage(c: Call, side: Side) -> Passage
     let meters = c.meters;
     let two = standings.two;
     let three = standings.three;
-    passage_of(
+    served(
         meter_of(meters, side),
-        serves_two(phase, in_force(two), late(side, rights.late)),
-        serves_three(phase, in_force(three)),
+        phase,
+        side,
+        rights.late,
+        in_force(two),
+        in_force(three),
     )
 }
 
@@ -72,14 +67,13 @@ fn carried(c: Call, side: Side, more: bool, p: Passage) -> Reply
     ensures { λ r. ⌜ r ≡ carriedOf c side more p ⌝ }
 {
     let meters = c.meters;
-    let next = with_meter(meters, side, after(meter_of(meters, side), p));
     reply_to(
         side,
-        with_meters(c, next),
+        with_meters(c, spent(meters, side, p)),
         passage_answer(p),
         Note::Clear,
-        only_if(marks(p), congestion(Level::NotReady)),
-        only_if(passes(p), informs(more)),
+        to_sender(p),
+        to_receiver(p, more),
     )
 }
 

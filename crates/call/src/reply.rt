@@ -20,14 +20,14 @@ pub struct Reply {
 }
 
 // What bars an event from being heard, if anything does.
-pub fn barred(c: Call, allowed: bool, ranged: bool) -> Answer
+pub(crate) fn barred(c: Call, allowed: bool, ranged: bool) -> Answer
     ensures { λ r. ⌜ r ≡ barOf c allowed ranged ⌝ }
 {
     first_bar(c.sound(), allowed, ranged)
 }
 
 // A refusal leaves the record as it was and sends nothing.
-pub fn refused(c: Call, a: Answer, note: Note) -> Reply
+pub(crate) fn refused(c: Call, a: Answer, note: Note) -> Reply
     ensures { λ r. ⌜ r ≡ refusedOf c a note ⌝ }
 {
     Reply {
@@ -40,7 +40,7 @@ pub fn refused(c: Call, a: Answer, note: Note) -> Reply
 }
 
 // The reply, unless the event is barred.
-pub fn heard(c: Call, bar: Answer, r: Reply) -> Reply
+pub(crate) fn heard(c: Call, bar: Answer, r: Reply) -> Reply
     ensures { λ s. ⌜ s ≡ heardOf c bar r ⌝ }
 {
     if taken(bar) {
@@ -51,7 +51,7 @@ pub fn heard(c: Call, bar: Answer, r: Reply) -> Reply
 }
 
 // A reply to one side's event: `back` goes to that side, `on` to the other.
-pub fn reply_to(side: Side, c: Call, a: Answer, note: Note, back: Sent, on: Sent) -> Reply
+pub(crate) fn reply_to(side: Side, c: Call, a: Answer, note: Note, back: Sent, on: Sent) -> Reply
     ensures { λ r. ⌜ r ≡ replyOf side c a note back on ⌝ }
 {
     Reply {

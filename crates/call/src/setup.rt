@@ -15,9 +15,6 @@ use numbers::Answer;
 use phases::Phase;
 use phases::is_fresh;
 use requests::carries;
-use requests::lacks;
-use requests::network_refusals;
-use requests::passed_requests;
 use requests::setup_phase;
 use requests::standings_of;
 use requests::to_called;
@@ -45,18 +42,15 @@ fn filled(reference: u16, rights: Rights, phase: Phase, standings: Standings) ->
 fn proceeds(reference: u16, rights: Rights, requests: Requests, seen: Seen) -> Reply
     ensures { λ r. ⌜ r ≡ proceedsOf reference rights requests seen ⌝ }
 {
-    let lacking = lacks(rights, requests);
     let standings = standings_of(rights, requests, seen);
-    let one = standings.one;
-    let carried = carries(lacking, one);
-    let refusals = network_refusals(rights, requests);
-    let passed = passed_requests(rights, requests);
+    let carried = carries(rights, requests, seen);
+    let phase = setup_phase(rights, requests);
     Reply {
-        call: filled(reference, rights, setup_phase(lacking), standings),
+        call: filled(reference, rights, phase, standings),
         answer: Answer::Taken,
         note: noted(seen, carried),
-        calling: to_caller(lacking, refusals),
-        called: to_called(lacking, passed, goes_out(seen, carried)),
+        calling: to_caller(rights, requests),
+        called: to_called(rights, requests, goes_out(seen, carried)),
     }
 }
 

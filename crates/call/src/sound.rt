@@ -20,7 +20,7 @@ fn fields_fit(c: Call) -> bool
 }
 
 // The record keeps what it had: only its phase changes.
-pub fn in_phase(c: Call, p: Phase) -> Call
+pub(crate) fn in_phase(c: Call, p: Phase) -> Call
     ensures { λ r. ⌜ r ≡ inPhaseOf c p ⌝ }
 {
     let rights = c.rights;

@@ -2,10 +2,11 @@
 use mathlib.Core.Bool.{Bool, cond, _&&_}
 use Rattle.rights.specs.declared.Rights.{Rights}
 use Rattle.meters.specs.declared.Meters.{Meters}
-use Rattle.meter.specs.Meter.{emptyOf, grantedOf, tickedOf, meterFitsOf}
+use Rattle.meter.specs.Meter.{emptyOf, grantedOf, tickedOf, afterOf, meterFitsOf}
 use Rattle.rights.specs.Rights.{rightsFitOf, referenceFitsOf}
 use Prim.Native.Nat.{ℕ}
 use Rattle.meter.specs.declared.Meter.{Meter}
+use Rattle.meter.specs.declared.Passage.{Passage}
 use Rattle.sent.specs.declared.Level.{Level}
 use Rattle.sides.specs.declared.Side.{Side}
 use Rattle.sent.specs.Message.{congestionOf, onlyIfOf}
@@ -24,6 +25,10 @@ meterOf m Side.Called = m .called
 abbrev pub withMeterOf : Meters → Side → Meter → Meters
 withMeterOf m Side.Calling n = record { calling = n; called = m .called }
 withMeterOf m Side.Called n = record { calling = m .calling; called = n }
+
+-- what a message's passage makes of the meter of its side
+abbrev pub spentOf : Meters → Side → Passage → Meters
+spentOf m side p = withMeterOf m side (afterOf (meterOf m side) p)
 
 -- "Coming into force, service 3 gives each direction X credits"
 unfoldable pub grantsOf : Meters → ℕ → Meters

@@ -1,9 +1,11 @@
 // The two meters of a call, and what the events make of them.
 ghost use mathlib.Core.Path.{_≡_};
-ghost use Rattle.meters.specs.Meters.{emptyMeters, meterOf, withMeterOf, grantsOf, inForceAfterOf, facilityMetersOf, tickedMetersOf, refillsOf, readyOf, rangesFit};
+ghost use Rattle.meters.specs.Meters.{emptyMeters, meterOf, withMeterOf, spentOf, grantsOf, inForceAfterOf, facilityMetersOf, tickedMetersOf, refillsOf, readyOf, rangesFit};
 use asking::What;
 use fates::Fate;
 use meter::Meter;
+use meter::Passage;
+use meter::after;
 use meter::empty;
 use meter::granted;
 use meter::meter_fits;
@@ -43,7 +45,7 @@ pub fn meter_of(m: Meters, side: Side) -> Meter
 }
 
 // The meters with another one for what a side sends.
-pub fn with_meter(m: Meters, side: Side, n: Meter) -> Meters
+fn with_meter(m: Meters, side: Side, n: Meter) -> Meters
     ensures { λ r. ⌜ r ≡ withMeterOf m side n ⌝ }
 {
     let calling = m.calling;
@@ -58,6 +60,13 @@ pub fn with_meter(m: Meters, side: Side, n: Meter) -> Meters
             called: n,
         },
     }
+}
+
+// What a message's passage makes of the meter of its side.
+pub fn spent(m: Meters, side: Side, p: Passage) -> Meters
+    ensures { λ r. ⌜ r ≡ spentOf m side p ⌝ }
+{
+    with_meter(m, side, after(meter_of(m, side), p))
 }
 
 // Service 3 comes into force.

@@ -1,8 +1,6 @@
 // What SETUP asks for, held against the rights: how each service then stands, and what is said of it to each user.
 ghost use mathlib.Core.Path.{_≡_};
-ghost use mathlib.Core.Bool.{not, _&&_};
-ghost use Rattle.standing.specs.Standing.{remainsOf};
-ghost use Rattle.requests.specs.Requests.{askedStandingOf, impliedOf, firstStandingOf, lackingOf, passedRequestOf, networkRefusalOf, standingsOf, lacksOf, passedRequestsOf, networkRefusalsOf, setupPhaseOf, toCallerOf, toCalledOf};
+ghost use Rattle.requests.specs.Requests.{askedStandingOf, impliedOf, firstStandingOf, lackingOf, passedRequestOf, networkRefusalOf, standingsOf, lacksOf, passedRequestsOf, networkRefusalsOf, setupPhaseOf, toCallerOf, toCalledOf, setupCarriesOf};
 use carriage::Seen;
 use carriage::whole;
 use causes::Cause;
@@ -116,7 +114,7 @@ pub fn standings_of(rights: Rights, q: Requests, s: Seen) -> Standings
     }
 }
 
-pub fn lacks(rights: Rights, q: Requests) -> bool
+fn lacks(rights: Rights, q: Requests) -> bool
     ensures { λ r. ⌜ r ≡ lacksOf rights q ⌝ }
 {
     let one = q.one;
@@ -127,7 +125,7 @@ pub fn lacks(rights: Rights, q: Requests) -> bool
         | lacking(three, has(rights, Service::Three))
 }
 
-pub fn passed_requests(rights: Rights, q: Requests) -> Facilities
+fn passed_requests(rights: Rights, q: Requests) -> Facilities
     ensures { λ r. ⌜ r ≡ passedRequestsOf rights q ⌝ }
 {
     let one = q.one;
@@ -140,7 +138,7 @@ pub fn passed_requests(rights: Rights, q: Requests) -> Facilities
     }
 }
 
-pub fn network_refusals(rights: Rights, q: Requests) -> Facilities
+fn network_refusals(rights: Rights, q: Requests) -> Facilities
     ensures { λ r. ⌜ r ≡ networkRefusalsOf rights q ⌝ }
 {
     let one = q.one;
@@ -153,20 +151,21 @@ pub fn network_refusals(rights: Rights, q: Requests) -> Facilities
     }
 }
 
-pub fn setup_phase(lacking: bool) -> Phase
-    ensures { λ r. ⌜ r ≡ setupPhaseOf lacking ⌝ }
+pub fn setup_phase(rights: Rights, q: Requests) -> Phase
+    ensures { λ r. ⌜ r ≡ setupPhaseOf (lacksOf rights q) ⌝ }
 {
-    if lacking {
+    if lacks(rights, q) {
         Phase::Ended
     } else {
         Phase::Requested
     }
 }
 
-pub fn to_caller(lacking: bool, refusals: Facilities) -> Sent
-    ensures { λ r. ⌜ r ≡ toCallerOf lacking refusals ⌝ }
+pub fn to_caller(rights: Rights, q: Requests) -> Sent
+    ensures { λ r. ⌜ r ≡ toCallerOf (lacksOf rights q) (networkRefusalsOf rights q) ⌝ }
 {
-    if lacking {
+    let refusals = network_refusals(rights, q);
+    if lacks(rights, q) {
         saying(
             Kind::ReleaseComplete,
             Cause::Value(NOT_SUBSCRIBED),
@@ -178,10 +177,12 @@ pub fn to_caller(lacking: bool, refusals: Facilities) -> Sent
     }
 }
 
-pub fn to_called(lacking: bool, requests: Facilities, element: bool) -> Sent
-    ensures { λ r. ⌜ r ≡ toCalledOf lacking requests element ⌝ }
+// `element` says whether the element goes out.
+pub fn to_called(rights: Rights, q: Requests, element: bool) -> Sent
+    ensures { λ r. ⌜ r ≡ toCalledOf (lacksOf rights q) (passedRequestsOf rights q) element ⌝ }
 {
-    if lacking {
+    let requests = passed_requests(rights, q);
+    if lacks(rights, q) {
         Sent::Absent
     } else {
         saying(Kind::Setup, Cause::Absent, requests, element)
@@ -189,8 +190,10 @@ pub fn to_called(lacking: bool, requests: Facilities, element: bool) -> Sent
 }
 
 // The element goes on where the message does and service 1 remains.
-pub fn carries(lacking: bool, one: Standing) -> bool
-    ensures { λ r. ⌜ r ≡ (not lacking && remainsOf one) ⌝ }
+pub fn carries(rights: Rights, q: Requests, s: Seen) -> bool
+    ensures { λ r. ⌜ r ≡ setupCarriesOf rights q s ⌝ }
 {
-    !lacking & remains(one)
+    let standings = standings_of(rights, q, s);
+    let one = standings.one;
+    !lacks(rights, q) & remains(one)
 }

@@ -1,13 +1,20 @@
 // Which service serves a USER INFORMATION message, and what its passage is answered.
 ghost use mathlib.Core.Path.{_≡_};
-ghost use Rattle.serving.specs.Serving.{lateOf, servesTwoOf, servesThreeOf, passageAnswerOf, passesOf, marksOf};
+ghost use Rattle.serving.specs.Serving.{lateOf, servesTwoOf, servesThreeOf, passageAnswerOf, passesOf, marksOf, servedOf, toSenderOf, toReceiverOf};
+use meter::Meter;
 use meter::Passage;
+use meter::passage_of;
 use numbers::Answer;
 use phases::Phase;
+use sent::Level;
+use sent::Sent;
+use sent::congestion;
+use sent::informs;
+use sent::only_if;
 use sides::Side;
 
 // Late delivery is for what the calling side sends.
-pub fn late(side: Side, right: bool) -> bool
+fn late(side: Side, right: bool) -> bool
     ensures { λ r. ⌜ r ≡ lateOf side right ⌝ }
 {
     match side {
@@ -17,7 +24,7 @@ pub fn late(side: Side, right: bool) -> bool
 }
 
 // Whether service 2 serves in a phase; `force` says whether it is in force.
-pub fn serves_two(p: Phase, force: bool, late: bool) -> bool
+fn serves_two(p: Phase, force: bool, late: bool) -> bool
     ensures { λ r. ⌜ r ≡ servesTwoOf p force late ⌝ }
 {
     match p {
@@ -43,6 +50,17 @@ pub fn serves_three(p: Phase, force: bool) -> bool
     }
 }
 
+// What a side's message meets in its meter; `right` says whether the rights have late delivery, two and three which services are in force.
+pub fn served(m: Meter, p: Phase, side: Side, right: bool, two: bool, three: bool) -> Passage
+    ensures { λ r. ⌜ r ≡ servedOf m p side right two three ⌝ }
+{
+    passage_of(
+        m,
+        serves_two(p, two, late(side, right)),
+        serves_three(p, three),
+    )
+}
+
 pub fn passage_answer(p: Passage) -> Answer
     ensures { λ r. ⌜ r ≡ passageAnswerOf p ⌝ }
 {
@@ -55,7 +73,7 @@ pub fn passage_answer(p: Passage) -> Answer
     }
 }
 
-pub fn passes(p: Passage) -> bool
+fn passes(p: Passage) -> bool
     ensures { λ r. ⌜ r ≡ passesOf p ⌝ }
 {
     match p {
@@ -67,7 +85,7 @@ pub fn passes(p: Passage) -> bool
     }
 }
 
-pub fn marks(p: Passage) -> bool
+fn marks(p: Passage) -> bool
     ensures { λ r. ⌜ r ≡ marksOf p ⌝ }
 {
     match p {
@@ -77,4 +95,18 @@ pub fn marks(p: Passage) -> bool
         Passage::Spent => false,
         Passage::Unserved => false,
     }
+}
+
+// The sender is told once that there is no credit.
+pub fn to_sender(p: Passage) -> Sent
+    ensures { λ s. ⌜ s ≡ toSenderOf p ⌝ }
+{
+    only_if(marks(p), congestion(Level::NotReady))
+}
+
+// A message that passes goes on to the other side.
+pub fn to_receiver(p: Passage, more: bool) -> Sent
+    ensures { λ s. ⌜ s ≡ toReceiverOf p more ⌝ }
+{
+    only_if(passes(p), informs(more))
 }

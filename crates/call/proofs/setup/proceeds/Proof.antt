@@ -1,23 +1,23 @@
 use Rattle.call.specs.Setup.{proceedsOf}
-use Rattle.requests.specs.Requests.{setupCarriesOf}
 use borrow.Author.Needs.{needs}
 use Rattle.call.proofs.setup.proceeds.Statement.{statement}
 use Rattle.call.proofs.setup.proceeds.Tie as tie
-
-lacks-requires : tie.Need-lacks-requires
-lacks-requires c κs = search needs
+use Rattle.call.proofs.setup.proceeds.Reads as reads
+use Rattle.call.proofs.setup.proceeds.Lts as lts
+use Rattle.call.proofs.setup.filled.Reads as filled-reads
+use Rattle.carriage.proofs.goes_out.Reads as goes-out-reads
+use Rattle.carriage.proofs.noted.Reads as noted-reads
+use Rattle.requests.proofs.carries.Reads as carries-reads
+use Rattle.requests.proofs.setup_phase.Reads as setup-phase-reads
+use Rattle.requests.proofs.standings_of.Reads as standings-of-reads
+use Rattle.requests.proofs.to_called.Reads as to-called-reads
+use Rattle.requests.proofs.to_caller.Reads as to-caller-reads
 
 standings-of-requires : tie.Need-standings-of-requires
 standings-of-requires c κs = search needs
 
 carries-requires : tie.Need-carries-requires
 carries-requires c κs = search needs
-
-network-refusals-requires : tie.Need-network-refusals-requires
-network-refusals-requires c κs = search needs
-
-passed-requests-requires : tie.Need-passed-requests-requires
-passed-requests-requires c κs = search needs
 
 setup-phase-requires : tie.Need-setup-phase-requires
 setup-phase-requires c κs = search needs
@@ -38,18 +38,15 @@ to-called-requires : tie.Need-to-called-requires
 to-called-requires c κs = search needs
 
 returns : tie.Need-returns
-unfolding proceedsOf setupCarriesOf
-returns c = simp (c .to-called .ensures, c .before .goes-out .ensures, c .before .before .to-caller .ensures, c .before .before .before .noted .ensures, c .before .before .before .before .filled .ensures, c .before .before .before .before .before .setup-phase .ensures, c .before .before .before .before .before .before .passed-requests .ensures, c .before .before .before .before .before .before .before .network-refusals .ensures, c .before .before .before .before .before .before .before .before .carries .ensures, c .before .before .before .before .before .before .before .before .before .standings-of .ensures, c .before .before .before .before .before .before .before .before .before .before .lacks .ensures)
+unfolding proceedsOf
+returns c = simp (c .to-called .ensures, c .before .goes-out .ensures, c .before .before .to-caller .ensures, c .before .before .before .noted .ensures, c .before .before .before .before .filled .ensures, c .before .before .before .before .before .setup-phase .ensures, c .before .before .before .before .before .before .carries .ensures, c .before .before .before .before .before .before .before .standings-of .ensures)
 
 pub proceeds-spec : {M : Type 1} → statement M
 proceeds-spec =
     tie.close
     (tie.spec
-    lacks-requires
     standings-of-requires
     carries-requires
-    network-refusals-requires
-    passed-requests-requires
     setup-phase-requires
     filled-requires
     noted-requires
