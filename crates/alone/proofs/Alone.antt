@@ -17,7 +17,7 @@ use Rattle.choosing.specs.declared.choice.Verdict.{Verdict}
 use Rattle.settling.specs.declared.settle.Outcome.{Outcome}
 use Rattle.looking.specs.Look.{liveAs}
 use Rattle.table.specs.Table.{tableSound}
-use Rattle.exchange.specs.Chosen.{chosenOf}
+use Rattle.chosen.specs.Chosen.{chosenOf}
 use Rattle.choosing.specs.Choice.{verdictNumber, referenceOf, opensOf, rangedOf}
 use Rattle.settling.specs.Settle.{subjectOf, outcomeOf, refusalOf, settledOf}
 use Rattle.exchange.specs.Step.{outcomeAt, tableAt, stepOutcome, stepTable}

@@ -23,7 +23,7 @@ use Rattle.call.specs.Information.{metersOf, informationPassageOf, carriedOf, w
 use Rattle.call.specs.Disconnect.{endsOf, releaseCompleteOf}
 use Rattle.call.specs.Tick.{runsOf, passesTickOf, tickOf}
 use Rattle.table.specs.Table.{tableSound}
-use Rattle.exchange.specs.Chosen.{chosenOf}
+use Rattle.chosen.specs.Chosen.{chosenOf}
 use Rattle.choosing.specs.Choice.{chooseOf}
 use Rattle.settling.specs.Settle.{subjectOf, keptOf, outcomeOf, refusalOf, settledOf}
 use Rattle.exchange.specs.Step.{stepOutcome, stepTable}

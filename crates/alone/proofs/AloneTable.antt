@@ -20,7 +20,7 @@ use Rattle.choosing.specs.declared.choice.Verdict.{Verdict}
 use Rattle.looking.specs.declared.Found.{Found}
 use Rattle.looking.specs.Look.{liveAs, isAt}
 use Rattle.table.specs.Table.{findFrom, placeFrom, heldIn, tableSound}
-use Rattle.exchange.specs.Chosen.{chosenOf}
+use Rattle.chosen.specs.Chosen.{chosenOf}
 use Rattle.choosing.specs.Choice.{referenceOf, opensOf, rangedOf, newPlaceOf, oldPlaceOf, chooseOf}
 use Rattle.settling.specs.Settle.{settledOf}
 use Rattle.exchange.specs.Step.{tableAt, stepTable}

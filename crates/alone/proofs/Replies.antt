@@ -20,7 +20,7 @@ use Rattle.looking.specs.declared.Found.{Found}
 use Rattle.choosing.specs.Choice.{wantedOf, ownOr, isNew, referenceOf, opensOf, rangedOf, chooseOf}
 use Rattle.settling.specs.Settle.{subjectOf, keptOf, outcomeOf, refusalOf, settledOf}
 use Rattle.table.specs.Table.{tableSound, findFrom, placeFrom}
-use Rattle.exchange.specs.Chosen.{chosenOf}
+use Rattle.chosen.specs.Chosen.{chosenOf}
 use Rattle.exchange.specs.Step.{outcomeAt, tableAt, stepOutcome, stepTable}
 use Rattle.exchange.specs.Promises.{Held}
 use Rattle.exchange.proofs.Counted.{clash, found-held, not-found, no-place, not-full, not-faulty, is-faulty}

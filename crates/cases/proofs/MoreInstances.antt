@@ -27,7 +27,7 @@ use Rattle.call.specs.Tick.{runsOf, passesTickOf, tickOf}
 use Rattle.call.specs.Step.{notAnEventOf}
 use Rattle.ranges.specs.Ranges.{RightsInRange}
 use Rattle.promises.specs.Numbers.{Has}
-use Rattle.promises.specs.MoreRights.{NoLess}
+use Rattle.demands.specs.MoreRights.{NoLess}
 use Rattle.cases.specs.MoreInstances.{rightsOf, MoreInstances, mended, Without, lastIn, GoesWrong, NoneLeftOut, CreditShown}
 use Rattle.ranges.proofs.Ranges.{rights-range}
 

@@ -34,7 +34,7 @@ use Rattle.call.specs.Tick.{runsOf, passesTickOf, tickOf}
 use Rattle.promises.specs.Numbers.{InForce}
 use Rattle.promises.specs.Sound.{runOf}
 use Rattle.cases.specs.Edges.{silent}
-use Rattle.promises.specs.Services.{standingFor, Taken, Requires, asked, alerting}
+use Rattle.demands.specs.Services.{standingFor, Taken, Requires, asked, alerting}
 use Rattle.cases.specs.Handed.{opening, connected, agreed, Handed, Held}
 use Rattle.cases.specs.ShutOut.{ShutOut}
 

@@ -16,7 +16,7 @@ use Rattle.promises.specs.Sound.{Offered, runOf}
 use Rattle.cases.specs.Edges.{elementOf, setup, silent, says}
 use Rattle.cases.specs.Instances.{bare, served, unserved}
 use Rattle.promises.specs.Handling.{handedTo}
-use Rattle.promises.specs.Services.{standingFor, Happens, Takes, Taken, Requires, Failing}
+use Rattle.demands.specs.Services.{standingFor, Happens, Takes, Taken, Requires, Failing}
 
 abbrev pub gives : Given → Given → Given → Answers
 gives one two three = record { one = one; two = two; three = three }

@@ -18,7 +18,7 @@ use Rattle.call.specs.Sound.{freshCall}
 use Rattle.call.specs.Step.{stepOf}
 use Rattle.ranges.specs.Ranges.{Live}
 use Rattle.promises.specs.Sound.{Offered, runOf}
-use Rattle.promises.specs.Credit.{Account, purseOf, books, unopened}
+use Rattle.demands.specs.Credit.{Account, purseOf, books, unopened}
 use Rattle.cases.specs.Edges.{nothing, message, Outcome, Case, AllHold, elementOf, rights, setup, silent, says}
 
 -- an event without an element

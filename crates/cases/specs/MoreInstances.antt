@@ -14,8 +14,8 @@ use Rattle.ranges.specs.Ranges.{RightsInRange}
 use Rattle.promises.specs.Sound.{Offered}
 use Rattle.cases.specs.Edges.{elementOf, setup, silent}
 use Rattle.cases.specs.Instances.{bare}
-use Rattle.promises.specs.Credit.{Purse, accountOf, unopened}
-use Rattle.promises.specs.MoreRights.{withRights, NoLess, Handed, handedOf}
+use Rattle.demands.specs.Credit.{Purse, accountOf, unopened}
+use Rattle.demands.specs.MoreRights.{withRights, NoLess, Handed, handedOf}
 
 abbrev pub rightsOf : ℕ → Bool → Bool → ℕ → ℕ → ℕ → Rights
 rightsOf services late leave limit burst refill =

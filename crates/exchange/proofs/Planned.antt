@@ -9,7 +9,7 @@ use Rattle.events.specs.declared.Event.{Event}
 use Rattle.call.specs.Sound.{freshCall}
 use Rattle.choosing.specs.declared.choice.Choice.{Choice}
 use Rattle.plan.specs.declared.Put.{Put}
-use Rattle.exchange.specs.Chosen.{chosenOf}
+use Rattle.chosen.specs.Chosen.{chosenOf}
 use Rattle.exchange.specs.Halves.{lookAt, lookOf, committed}
 use Rattle.plan.specs.Plan.{rowOf, recordOf}
 use Rattle.deciding.specs.Decided.{planOf}

@@ -25,7 +25,7 @@ use Rattle.call.specs.Setup.{setupOf, proceedsOf}
 use Rattle.call.specs.Sound.{freshCall, soundOf}
 use Rattle.call.specs.Step.{stepOf}
 use Rattle.table.specs.Table.{tableSound, findFrom, placeFrom}
-use Rattle.exchange.specs.Chosen.{chosenOf}
+use Rattle.chosen.specs.Chosen.{chosenOf}
 use Rattle.choosing.specs.Choice.{verdictNumber, referenceOf, opensOf, rangedOf, newPlaceOf, oldPlaceOf, chooseOf}
 use Rattle.settling.specs.Settle.{subjectOf, changesOf, keptOf, outcomeOf, refusalOf, settledOf}
 use Rattle.exchange.specs.Step.{outcomeAt, tableAt, stepOutcome, stepTable}

@@ -11,7 +11,7 @@ use Rattle.call.specs.declared.Call.{Call}
 use Rattle.events.specs.declared.Event.{Event}
 use Rattle.looking.specs.Look.{liveAs, freeOf}
 use Rattle.table.specs.Table.{findFrom, placeFrom, tableSound}
-use Rattle.exchange.specs.Chosen.{chosenOf}
+use Rattle.chosen.specs.Chosen.{chosenOf}
 use Rattle.choosing.specs.Choice.{referenceOf, opensOf, rangedOf, newPlaceOf, oldPlaceOf, chooseOf}
 use Rattle.looking.specs.declared.Found.{Found}
 use Rattle.choosing.specs.declared.choice.Choice.{Choice}

@@ -8,7 +8,7 @@ use Rattle.call.specs.Sound.{freshCall}
 use Rattle.choosing.specs.declared.choice.Choice.{Choice}
 use Rattle.plan.specs.declared.Looked.{Looked}
 use Rattle.plan.specs.declared.Put.{Put}
-use Rattle.exchange.specs.Chosen.{chosenOf}
+use Rattle.chosen.specs.Chosen.{chosenOf}
 
 abbrev pub lookAt : List Call → Choice → Looked
 lookAt t (Choice.At i) = Looked.At i (getD t i freshCall)

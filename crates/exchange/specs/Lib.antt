@@ -1,4 +1,3 @@
 pub mod Halves
-pub mod Chosen
 pub mod Step
 pub mod Promises

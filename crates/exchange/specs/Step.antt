@@ -7,7 +7,7 @@ use Rattle.events.specs.declared.Event.{Event}
 use Rattle.call.specs.Sound.{freshCall}
 use Rattle.choosing.specs.declared.choice.Choice.{Choice}
 use Rattle.settling.specs.declared.settle.Outcome.{Outcome}
-use Rattle.exchange.specs.Chosen.{chosenOf}
+use Rattle.chosen.specs.Chosen.{chosenOf}
 use Rattle.settling.specs.Settle.{settledOf, refusalOf}
 
 abbrev pub outcomeAt : List Call → Choice → Event → List ℕ → Outcome

@@ -1,3 +1,2 @@
 // The calls of a line, in a table that its holder lends.
-pub mod chosen;
 pub mod step;

@@ -2,9 +2,9 @@
 ghost use mathlib.Core.Path.{_≡_};
 ghost use Rattle.exchange.specs.Halves.{lookOf, committed};
 ghost use Rattle.exchange.specs.Step.{stepOutcome, stepTable};
-use crate::chosen::chosen;
 use call::Call;
 use choosing::choice::Choice;
+use chosen::chosen;
 use deciding::plans;
 use events::Event;
 use plan::Looked;

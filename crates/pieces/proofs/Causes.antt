@@ -47,7 +47,7 @@ use Rattle.call.specs.Tick.{passesTickOf, tickOf}
 use Rattle.call.specs.Step.{notAnEventOf, stepOf}
 use Rattle.choosing.specs.declared.choice.Choice.{Choice}
 use Rattle.settling.specs.declared.settle.Outcome.{Outcome}
-use Rattle.exchange.specs.Chosen.{chosenOf}
+use Rattle.chosen.specs.Chosen.{chosenOf}
 use Rattle.settling.specs.Settle.{settledOf, refusalOf, outcomeOf as settledOutcome}
 use Rattle.exchange.specs.Step.{outcomeAt, stepOutcome}
 use Rattle.pieces.proofs.Making.{by-cond}

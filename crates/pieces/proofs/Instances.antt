@@ -20,7 +20,7 @@ use Rattle.call.specs.Setup.{filledOf, proceedsOf, setupOf}
 use Rattle.call.specs.Information.{metersOf}
 use Rattle.call.specs.Tick.{runsOf, passesTickOf, tickOf}
 use Rattle.table.specs.Table.{tableSound}
-use Rattle.exchange.specs.Chosen.{chosenOf}
+use Rattle.chosen.specs.Chosen.{chosenOf}
 use Rattle.choosing.specs.Choice.{chooseOf}
 use Rattle.settling.specs.Settle.{subjectOf, keptOf, outcomeOf, refusalOf, settledOf}
 use Rattle.exchange.specs.Step.{stepOutcome, stepTable}

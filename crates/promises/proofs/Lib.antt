@@ -1,13 +1,8 @@
-pub mod Beside
 pub mod Conditions
-pub mod Credit
-pub mod Granted
 pub mod Handling
 pub mod Heard
-pub mod MoreRights
 pub mod Notes
 pub mod Numbers
 pub mod Refusals
-pub mod Required
 pub mod Seen
 pub mod Sound

@@ -48,7 +48,7 @@ use Rattle.call.proofs.Call as T
 use Rattle.call.proofs.Call.Laws as T′
 use Rattle.events.proofs.Event as E
 use Rattle.events.proofs.Event.Laws as E′
-use Rattle.exchange.specs.Chosen.{chosenOf}
+use Rattle.chosen.specs.Chosen.{chosenOf}
 use Rattle.exchange.specs.Halves.{lookAt, lookOf}
 use Rattle.choosing.specs.declared.choice.Choice.{Choice}
 use Rattle.choosing.specs.declared.choice.Choice.the-variants.{At, Refused}
@@ -63,10 +63,10 @@ use Rattle.choosing.proofs.choice.Choice as R
 use Rattle.choosing.proofs.choice.Choice.Laws as R′
 use Rattle.choosing.proofs.choice.Verdict as N
 use Rattle.choosing.proofs.choice.Verdict.Laws as N′
-use Rattle.exchange.proofs.chosen.chosen as g
-use Rattle.exchange.proofs.chosen.chosen.Symbol as g-def
-use Rattle.exchange.proofs.chosen.chosen.Symbol.{name as #g}
-use Rattle.exchange.proofs.chosen.chosen.Met as g-thm
+use Rattle.chosen.proofs.chosen as g
+use Rattle.chosen.proofs.chosen.Symbol as g-def
+use Rattle.chosen.proofs.chosen.Symbol.{name as #g}
+use Rattle.chosen.proofs.chosen.Met as g-thm
 use Rattle.table.proofs.call_at as p
 use Rattle.table.proofs.call_at.Symbol as p-def
 use Rattle.table.proofs.call_at.Symbol.{name as #p}
@@ -267,7 +267,7 @@ look-spec 𝓤 H 𝓜 𝓖 𝓡 =
     entered 𝓤 H (tripleOf 𝓤 H (𝓖 .A) f.signature (f.spec 𝓤 H (𝓖 .A) (𝓜 .mem) (𝓡 .run)))
     (tables 𝓤 H 𝓜 𝓡 code.env .C) (tables 𝓤 H 𝓜 𝓡 code.env .Λ) #f code.function (code.unfolded 𝓤 H 𝓜 𝓡)
     (meets 𝓤 H (𝓖 .A) (givenOf 𝓤 H 𝓜 𝓖) (𝓜 .mem) (𝓡 .run) (tablesOf 𝓤 H 𝓜 (tables 𝓤 H 𝓜 𝓡 code.env))
-    (cited 𝓤 H (G 𝓤 H (𝓖 .A) (𝓜 .mem) (𝓡 .run)) 𝓜 𝓡 code.env #g g-def.routine code.calls-exchange·chosen·chosen (g-thm.met 𝓤 H 𝓜 𝓖 𝓡))
+    (cited 𝓤 H (G 𝓤 H (𝓖 .A) (𝓜 .mem) (𝓡 .run)) 𝓜 𝓡 code.env #g g-def.routine code.calls-chosen·chosen (g-thm.met 𝓤 H 𝓜 𝓖 𝓡))
     (cited 𝓤 H (P 𝓤 H (𝓖 .A) (𝓜 .mem) (𝓡 .run)) 𝓜 𝓡 code.env #p p-def.routine code.calls-table·call-at (p-thm.met 𝓤 H 𝓜 𝓖 𝓡))
     (cited 𝓤 H (D 𝓤 H (𝓖 .A) (𝓜 .mem) (𝓡 .run)) 𝓜 𝓡 code.env #d d-def.routine code.calls-plan·met (d-thm.met 𝓤 H 𝓜 𝓖 𝓡))
     (cited 𝓤 H (L 𝓤 H (𝓖 .A) (𝓜 .mem) (𝓡 .run)) 𝓜 𝓡 code.env #m m-def.routine code.calls-plan·barred (m-thm.met 𝓤 H 𝓜 𝓖 𝓡)))

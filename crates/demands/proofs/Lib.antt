@@ -1,0 +1,5 @@
+pub mod Beside
+pub mod Credit
+pub mod Granted
+pub mod MoreRights
+pub mod Required

@@ -1,0 +1,3 @@
+pub mod Credit
+pub mod MoreRights
+pub mod Services
