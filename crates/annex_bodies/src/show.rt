@@ -2,8 +2,8 @@
 use annex_case::case;
 use annex_case::wrote;
 use component::facility::Component;
-use component::facility::write_facility;
 use fields::Place;
+use filling::write_facility;
 use line::write_line;
 use message::reader::part;
 use room::end_of;

@@ -13,7 +13,8 @@ use Rattle.component.specs.declared.facility.Refusal.{Refusal}
 use Rattle.component.specs.declared.facility.Component.{Component}
 use Rattle.component.specs.declared.facility.Facility.{Facility}
 use Rattle.cause.specs.Cause.{causeOf}
-use Rattle.component.specs.Facility.{Slot, serviceOf, wishOf, refusalOf, invokeSays, errorSays, readAs, invokeForm, resultForm, errorForm, invokeOf, resultOf, errorOf, or, facilityOf, spells, invokeNumber}
+use Rattle.component.specs.Facility.{invokeNumber}
+use Rattle.forms.specs.Forms.{Slot, serviceOf, wishOf, refusalOf, invokeSays, errorSays, readAs, invokeForm, resultForm, errorForm, invokeOf, resultOf, errorOf, or, facilityOf, spells}
 use Rattle.kinds.specs.declared.Typed.{Typed}
 use Rattle.fields.specs.declared.Width.{Width}
 use Rattle.fields.specs.declared.Single.{Single}

@@ -11,7 +11,7 @@ use types.Run.{OneOf, miss}
 use denote.Enum.Declared.{tagOf}
 use Rattle.cause.specs.declared.Cause.{Cause}
 use Rattle.component.specs.declared.facility.Component.{Component}
-use Rattle.component.specs.Facility.{filled, facilityOctets}
+use Rattle.filling.specs.Filling.{filled, facilityOctets}
 use Rattle.kinds.specs.declared.Kind.{Kind}
 use Rattle.kinds.proofs.Kind.{the-type}
 use Rattle.fields.specs.declared.Width.{Width}

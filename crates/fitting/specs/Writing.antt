@@ -6,7 +6,8 @@ use lib.ListN.{length, getD}
 use lib.Dec.{ltb, eqb}
 use Rattle.cause.specs.declared.Cause.{Cause}
 use Rattle.cause.specs.Cause.{causeFits, causeOctets}
-use Rattle.component.specs.Facility.{componentFits, facilityOctets}
+use Rattle.component.specs.Facility.{componentFits}
+use Rattle.filling.specs.Filling.{facilityOctets}
 use Rattle.kinds.specs.declared.Kind.{Kind}
 use Rattle.fields.specs.declared.Width.{Width}
 use Rattle.fields.specs.declared.Single.{Single}

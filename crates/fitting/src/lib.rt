@@ -2,7 +2,7 @@
 ghost use mathlib.Core.Path.{_≡_};
 ghost use Prim.Native.Nat.{_≤_};
 ghost use lib.ListN.{length};
-ghost use Rattle.component.specs.Facility.{facilityOctets};
+ghost use Rattle.filling.specs.Filling.{facilityOctets};
 ghost use Rattle.fitting.specs.Writing.{headerSize, singleOctets, causesOctets, facilitiesOctets, frontOctets, referenceFits, plainFits, moreFits, levelFits, singleFits, causesFit, facilitiesFit, userFits, messageFits};
 use cause::Cause;
 use component::facility::Component;

@@ -12,8 +12,9 @@ use lib.Seq.{take-length, drop-at}
 use lib.Dec.{leb}
 use Rattle.cause.specs.declared.Cause.{Cause}
 use Rattle.component.specs.declared.facility.Component.{Component}
-use Rattle.component.specs.Facility.{componentFits, bodyOf, facilityOctets}
-use Rattle.component.proofs.Back.{facility-back, cause-back}
+use Rattle.component.specs.Facility.{componentFits}
+use Rattle.filling.specs.Filling.{bodyOf, facilityOctets}
+use Rattle.filling.proofs.Back.{facility-back, cause-back}
 use Rattle.kinds.specs.declared.Kind.{Kind}
 use Rattle.kinds.specs.declared.Typed.{Typed}
 use Rattle.fields.specs.declared.Width.{Width}

@@ -20,7 +20,8 @@ use Rattle.call.specs.Facility.{facilityVerdictOf, facilityCallOf, passesFacili
 use Rattle.call.specs.Tick.{runsOf, passesTickOf, tickOf}
 use Rattle.call.specs.Step.{notAnEventOf}
 use Rattle.cause.specs.Cause.{causeOf}
-use Rattle.component.specs.Facility.{size, stand, spells, filled, serviceOf, wishOf, refusalOf, readAs, invokeOf, resultOf, errorOf, facilityOf as componentOf}
+use Rattle.forms.specs.Forms.{size, stand, spells, serviceOf, wishOf, refusalOf, readAs, invokeOf, resultOf, errorOf, facilityOf as componentOf}
+use Rattle.filling.specs.Filling.{filled}
 use Rattle.room.specs.Room.{placed, wroteOf, leftOf}
 use Rattle.elements.specs.Elements.{then, elements, counted}
 use Rattle.kinds.specs.Kind.{kindOf}

@@ -1,6 +1,6 @@
 use mathlib.Core.Path.{refl}
 use native.Mathlib.Omega.{arith}
-use Rattle.component.specs.Facility.{filled}
+use Rattle.filling.specs.Filling.{filled}
 use borrow.Author.Needs.{needs}
 use Rattle.fitting.proofs.component_size.Statement.{statement}
 use Rattle.fitting.proofs.component_size.Tie as tie
