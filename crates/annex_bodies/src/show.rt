@@ -5,7 +5,7 @@ use component::facility::Component;
 use fields::Place;
 use filling::write_facility;
 use line::write_line;
-use message::reader::part;
+use parts::part;
 use room::end_of;
 use room::write_octets;
 

@@ -26,7 +26,8 @@ use Rattle.elements.specs.declared.Read.{Read}
 use Rattle.kinds.specs.Kind.{kindOf}
 use Rattle.elements.specs.Elements.{Element, Split, cut, whole, elements, counted}
 use Rattle.elements.specs.Meaning.{firstCause, andSays, components, firstThree, readingOf, takenOf}
-use Rattle.message.specs.Reading.{widthOf, referenceOf, typedOf, headedOf, readOf, placeIn}
+use Rattle.message.specs.Reading.{widthOf, referenceOf, typedOf, headedOf, readOf}
+use Rattle.parts.specs.Parts.{placeIn}
 use Rattle.octets.specs.Promises.{CauseIn, FacilitiesIn}
 use Rattle.octets.proofs.Promises.{element}
 use Rattle.text.specs.Decimal.{decimalOf}

@@ -31,7 +31,8 @@ use Rattle.elements.specs.Elements.{element, elements, counted}
 use Rattle.single.specs.Single.{moreIn, levelIn, singleOf}
 use Rattle.found.specs.Found.{oneMore, causeSeen}
 use Rattle.elements.specs.Meaning.{takenOf}
-use Rattle.message.specs.Reading.{readOf, partOf, userUserOf}
+use Rattle.message.specs.Reading.{readOf}
+use Rattle.parts.specs.Parts.{partOf, userUserOf}
 use Rattle.elements.specs.Scan.{Adds, takenWith}
 use Rattle.fitting.specs.Writing.{topOf, headerOctets, headerSize, singleOctets, causesOctets, facilitiesOctets, frontOctets, messageOctets, referenceFits, plainFits, moreFits, singleFits, causesFit, facilitiesFit, messageFits}
 use Rattle.octets.specs.Promises.{UserElement, placeFor}

@@ -18,7 +18,8 @@ use Rattle.kinds.specs.Kind.{kindOf}
 use Rattle.elements.specs.Elements.{element, Split, cut, whole, then, elements, locking, shifting, counted}
 use Rattle.elements.specs.Elements as el
 use Rattle.elements.specs.Meaning.{firstPlace, readingOf, takenOf}
-use Rattle.message.specs.Reading.{widthOf, headerOf, typedOf, headedOf, readOf, placeIn, userUserOf}
+use Rattle.message.specs.Reading.{widthOf, headerOf, typedOf, headedOf, readOf}
+use Rattle.parts.specs.Parts.{placeIn, userUserOf}
 use Rattle.octets.specs.Promises as promise
 use Rattle.elements.proofs.Splitting.{short}
 use Rattle.octets.proofs.Cases.{by-cond}

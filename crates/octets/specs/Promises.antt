@@ -20,7 +20,8 @@ use Rattle.fields.specs.declared.Message.{Message}
 use Rattle.fields.specs.declared.Place.{Place}
 use Rattle.elements.specs.declared.Read.{Read}
 use Rattle.kinds.specs.Kind.{kindOf}
-use Rattle.message.specs.Reading.{readOf, placeIn, userUserOf}
+use Rattle.message.specs.Reading.{readOf}
+use Rattle.parts.specs.Parts.{placeIn, userUserOf}
 use Rattle.fitting.specs.Writing.{frontOctets, messageOctets, messageFits}
 use Rattle.elements.specs.Numbers.{readNumber}
 

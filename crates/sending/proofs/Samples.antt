@@ -27,7 +27,8 @@ use Rattle.elements.specs.Elements.{then, elements, counted}
 use Rattle.kinds.specs.Kind.{kindOf}
 use Rattle.single.specs.Single.{singleOf}
 use Rattle.elements.specs.Meaning.{firstSingle, firstCause, firstPlace, components, readingOf, takenOf}
-use Rattle.message.specs.Reading.{headedOf, readOf, userUserOf}
+use Rattle.message.specs.Reading.{headedOf, readOf}
+use Rattle.parts.specs.Parts.{userUserOf}
 use Rattle.fitting.specs.Writing.{frontOctets, messageOctets, userFits, messageFits}
 use Rattle.sending.specs.Samples.{Samples}
 

@@ -2,12 +2,12 @@ use lib.ListN.{length}
 use Prim.Native.Nat.{_+_}
 use mathlib.Core.Path.{refl}
 use borrow.Author.Tests.{le-leb, lt-leb}
-use Rattle.message.proofs.Lying.{outside, beyond, inside, size}
+use Rattle.parts.proofs.Lying.{outside, beyond, inside, size}
 use borrow.Author.Needs.{needs}
-use Rattle.message.proofs.reader.part.Statement.{statement}
-use Rattle.message.proofs.reader.part.Tie as tie
-use Rattle.message.proofs.reader.part.Reads as reads
-use Rattle.message.proofs.reader.part.Lts as lts
+use Rattle.parts.proofs.part.Statement.{statement}
+use Rattle.parts.proofs.part.Tie as tie
+use Rattle.parts.proofs.part.Reads as reads
+use Rattle.parts.proofs.part.Lts as lts
 
 enum-told : tie.Need-enum-told
 enum-told c = search needs

@@ -1,12 +1,12 @@
 use mathlib.Core.Path.{refl, sym, _∙_}
-use Rattle.message.specs.Reading.{userUserOf}
+use Rattle.parts.specs.Parts.{userUserOf}
 use borrow.Author.Needs.{needs}
-use Rattle.message.proofs.reader.user_user.Statement.{statement}
-use Rattle.message.proofs.reader.user_user.Tie as tie
-use Rattle.message.proofs.reader.user_user.Reads as reads
-use Rattle.message.proofs.reader.user_user.Lts as lts
-use Rattle.message.proofs.reader.part.Reads as part-reads
+use Rattle.parts.proofs.user_user.Statement.{statement}
+use Rattle.parts.proofs.user_user.Tie as tie
+use Rattle.parts.proofs.user_user.Reads as reads
+use Rattle.parts.proofs.user_user.Lts as lts
+use Rattle.parts.proofs.part.Reads as part-reads
 use Rattle.message.proofs.reader.read_message.Reads as read-message-reads
 
 read-message-requires : tie.Need-read-message-requires
 read-message-requires c κs = search needs
