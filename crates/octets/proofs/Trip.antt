@@ -34,13 +34,15 @@ use Rattle.elements.specs.Meaning.{takenOf}
 use Rattle.message.specs.Reading.{readOf}
 use Rattle.parts.specs.Parts.{partOf, userUserOf}
 use Rattle.elements.specs.Scan.{Adds, takenWith}
-use Rattle.fitting.specs.Writing.{topOf, headerOctets, headerSize, singleOctets, causesOctets, facilitiesOctets, frontOctets, messageOctets, referenceFits, plainFits, moreFits, singleFits, causesFit, facilitiesFit, messageFits}
+use Rattle.fitting.specs.Fitting.{referenceFits, plainFits, moreFits, singleFits, causesFit, facilitiesFit, messageFits}
+use Rattle.sizes.specs.Writing.{topOf, headerOctets, headerSize, singleOctets, causesOctets, facilitiesOctets, frontOctets, messageOctets}
 use Rattle.octets.specs.Promises.{UserElement, placeFor}
 use Rattle.elements.proofs.Splitting.{alone, lengthy}
 use Rattle.elements.proofs.Noting.{adds-cause, adds-facility, adds-place, adds-single}
 use Rattle.elements.proofs.Turns.{nothing, goingOn, at-first, at-last, notes}
 use Rattle.message.proofs.Heading.{headed-known}
-use Rattle.fitting.proofs.Ranges.{both, fits, small, front-is, message-is}
+use Rattle.fitting.proofs.Ranges.{both, fits}
+use Rattle.sizes.proofs.Sizes.{small, front-is, message-is}
 use Rattle.octets.proofs.Range.{user-in}
 
 -- THE HEADER

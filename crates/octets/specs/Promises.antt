@@ -22,7 +22,8 @@ use Rattle.elements.specs.declared.Read.{Read}
 use Rattle.kinds.specs.Kind.{kindOf}
 use Rattle.message.specs.Reading.{readOf}
 use Rattle.parts.specs.Parts.{placeIn, userUserOf}
-use Rattle.fitting.specs.Writing.{frontOctets, messageOctets, messageFits}
+use Rattle.fitting.specs.Fitting.{messageFits}
+use Rattle.sizes.specs.Writing.{frontOctets, messageOctets}
 use Rattle.elements.specs.Numbers.{readNumber}
 
 -- READS. Octets that are whole elements, one after another.

@@ -29,7 +29,8 @@ use Rattle.single.specs.Single.{singleOf}
 use Rattle.elements.specs.Meaning.{firstSingle, firstCause, firstPlace, components, readingOf, takenOf}
 use Rattle.message.specs.Reading.{headedOf, readOf}
 use Rattle.parts.specs.Parts.{userUserOf}
-use Rattle.fitting.specs.Writing.{frontOctets, messageOctets, userFits, messageFits}
+use Rattle.fitting.specs.Fitting.{userFits, messageFits}
+use Rattle.sizes.specs.Writing.{frontOctets, messageOctets}
 use Rattle.sending.specs.Samples.{Samples}
 
 pub samples : Samples

@@ -19,7 +19,7 @@ use Rattle.fields.specs.declared.Width.{Width}
 use Rattle.kinds.specs.declared.Kind.{Kind as LineKind}
 use Rattle.elements.specs.Meaning.{andSays, firstThree}
 use Rattle.parts.specs.Parts.{userUserOf}
-use Rattle.fitting.specs.Writing.{messageOctets}
+use Rattle.sizes.specs.Writing.{messageOctets}
 use Rattle.octets.specs.Promises.{highest, answerOf, bufferOf, Back}
 use Rattle.service.specs.declared.cause.Cause.{Cause}
 use Rattle.standing.specs.declared.Facilities.{Facilities}

@@ -1,10 +1,10 @@
 use lib.ListN.{length-append}
 use borrow.Author.Needs.{needs}
-use Rattle.fitting.proofs.facilities_size.Statement.{statement}
-use Rattle.fitting.proofs.facilities_size.Tie as tie
-use Rattle.fitting.proofs.facilities_size.Reads as reads
-use Rattle.fitting.proofs.facilities_size.Lts as lts
-use Rattle.fitting.proofs.component_size.Reads as component-size-reads
+use Rattle.sizes.proofs.facilities_size.Statement.{statement}
+use Rattle.sizes.proofs.facilities_size.Tie as tie
+use Rattle.sizes.proofs.facilities_size.Reads as reads
+use Rattle.sizes.proofs.facilities_size.Lts as lts
+use Rattle.sizes.proofs.component_size.Reads as component-size-reads
 
 enum-told : tie.Need-enum-told
 enum-told c = search needs

@@ -1,14 +1,14 @@
 use native.Mathlib.Omega.{arith}
-use Rattle.fitting.proofs.Ranges.{small, front-is}
+use Rattle.sizes.proofs.Sizes.{small, front-is}
 use borrow.Author.Needs.{needs}
-use Rattle.fitting.proofs.front_size.Statement.{statement}
-use Rattle.fitting.proofs.front_size.Tie as tie
-use Rattle.fitting.proofs.front_size.Reads as reads
-use Rattle.fitting.proofs.front_size.Lts as lts
-use Rattle.fitting.proofs.cause_size.Reads as cause-size-reads
-use Rattle.fitting.proofs.facilities_size.Reads as facilities-size-reads
-use Rattle.fitting.proofs.header_size.Reads as header-size-reads
-use Rattle.fitting.proofs.single_size.Reads as single-size-reads
+use Rattle.sizes.proofs.front_size.Statement.{statement}
+use Rattle.sizes.proofs.front_size.Tie as tie
+use Rattle.sizes.proofs.front_size.Reads as reads
+use Rattle.sizes.proofs.front_size.Lts as lts
+use Rattle.sizes.proofs.cause_size.Reads as cause-size-reads
+use Rattle.sizes.proofs.facilities_size.Reads as facilities-size-reads
+use Rattle.sizes.proofs.header_size.Reads as header-size-reads
+use Rattle.sizes.proofs.single_size.Reads as single-size-reads
 
 header-size-requires : tie.Need-header-size-requires
 header-size-requires c κs = search needs

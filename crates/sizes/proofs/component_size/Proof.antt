@@ -2,10 +2,10 @@ use mathlib.Core.Path.{refl}
 use native.Mathlib.Omega.{arith}
 use Rattle.filling.specs.Filling.{filled}
 use borrow.Author.Needs.{needs}
-use Rattle.fitting.proofs.component_size.Statement.{statement}
-use Rattle.fitting.proofs.component_size.Tie as tie
-use Rattle.fitting.proofs.component_size.Reads as reads
-use Rattle.fitting.proofs.component_size.Lts as lts
+use Rattle.sizes.proofs.component_size.Statement.{statement}
+use Rattle.sizes.proofs.component_size.Tie as tie
+use Rattle.sizes.proofs.component_size.Reads as reads
+use Rattle.sizes.proofs.component_size.Lts as lts
 
 enum-told : tie.Need-enum-told
 enum-told c = search needs
