@@ -24,7 +24,8 @@ use Rattle.fields.specs.declared.Place.{Place}
 use Rattle.elements.specs.declared.Reading.{Reading}
 use Rattle.elements.specs.declared.Read.{Read}
 use Rattle.kinds.specs.Kind.{kindOf}
-use Rattle.elements.specs.Elements.{Element, Split, cut, whole, elements, counted}
+use Rattle.elements.specs.Elements.{counted}
+use Rattle.splitting.specs.Splitting.{Element, Split, cut, whole, elements}
 use Rattle.elements.specs.Meaning.{firstCause, andSays, components, firstThree, readingOf, takenOf}
 use Rattle.message.specs.Reading.{widthOf, referenceOf, typedOf, headedOf, readOf}
 use Rattle.parts.specs.Parts.{placeIn}
