@@ -37,7 +37,8 @@ use Rattle.text.specs.Columns.{column}
 use Rattle.facilities.specs.Column.{componentText, facilityColumn}
 use Rattle.line.specs.Columns.{causeColumn, singleColumn, elementColumn, headColumns, takenColumns, columnsOf}
 use Rattle.line.specs.Line.{lineWith, lineOf}
-use Rattle.line.proofs.Words.{taken-text, refused-text}
+use Rattle.line.proofs.Words.{taken-text}
+use Rattle.refused.proofs.Words.{refused-text}
 use Rattle.capture.specs.Promises.{Octets, Bounded}
 use Rattle.capture.proofs.Framing.{by-cond}
 
