@@ -10,7 +10,7 @@ ghost use Rattle.text.specs.Pieces.{Piece};
 ghost use Rattle.text.specs.Columns.{column};
 ghost use Rattle.report.specs.Line.{typeColumn, saidColumns, numberColumns, typeColumns, lineOf};
 use body::kind::Kind;
-use items::write_sent;
+use joining::write_sent;
 use room::Wrote;
 use room::end_of;
 use room::write_octets;
