@@ -2,10 +2,10 @@
 use annex_case::case;
 use annex_case::wrote;
 use component::facility::Component;
-use component::facility::write_facility;
 use fields::Place;
+use filling::write_facility;
 use line::write_line;
-use message::reader::part;
+use parts::part;
 use room::end_of;
 use room::write_octets;
 

@@ -1,7 +1,7 @@
 // A case's line: its name, what was found, and whether that is what the standard gives.
 use fields::Place;
 use libc::STDOUT_FILENO;
-use message::reader::part;
+use parts::part;
 use room::Bar;
 use room::Wrote;
 use room::end_of;

@@ -5,9 +5,9 @@ use elements::Read;
 use fields::Message;
 use fields::Place;
 use line::write_line;
-use message::reader::part;
 use message::reader::read_message;
-use message::reader::user_user;
+use parts::part;
+use parts::user_user;
 use room::end_of;
 use writer::write_message;
 

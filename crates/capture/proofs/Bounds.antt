@@ -13,7 +13,8 @@ use Rattle.component.specs.declared.facility.Refusal.{Refusal}
 use Rattle.component.specs.declared.facility.Component.{Component}
 use Rattle.component.specs.declared.facility.Facility.{Facility}
 use Rattle.cause.specs.Cause.{causeOf}
-use Rattle.component.specs.Facility.{Slot, serviceOf, wishOf, refusalOf, invokeSays, errorSays, readAs, invokeForm, resultForm, errorForm, invokeOf, resultOf, errorOf, or, facilityOf, spells, invokeNumber}
+use Rattle.component.specs.Facility.{invokeNumber}
+use Rattle.forms.specs.Forms.{Slot, serviceOf, wishOf, refusalOf, invokeSays, errorSays, readAs, invokeForm, resultForm, errorForm, invokeOf, resultOf, errorOf, or, facilityOf, spells}
 use Rattle.kinds.specs.declared.Typed.{Typed}
 use Rattle.fields.specs.declared.Width.{Width}
 use Rattle.fields.specs.declared.Single.{Single}
@@ -23,9 +24,11 @@ use Rattle.fields.specs.declared.Place.{Place}
 use Rattle.elements.specs.declared.Reading.{Reading}
 use Rattle.elements.specs.declared.Read.{Read}
 use Rattle.kinds.specs.Kind.{kindOf}
-use Rattle.elements.specs.Elements.{Element, Split, cut, whole, elements, counted}
+use Rattle.elements.specs.Elements.{counted}
+use Rattle.splitting.specs.Splitting.{Element, Split, cut, whole, elements}
 use Rattle.elements.specs.Meaning.{firstCause, andSays, components, firstThree, readingOf, takenOf}
-use Rattle.message.specs.Reading.{widthOf, referenceOf, typedOf, headedOf, readOf, placeIn}
+use Rattle.message.specs.Reading.{widthOf, referenceOf, typedOf, headedOf, readOf}
+use Rattle.parts.specs.Parts.{placeIn}
 use Rattle.octets.specs.Promises.{CauseIn, FacilitiesIn}
 use Rattle.octets.proofs.Promises.{element}
 use Rattle.text.specs.Decimal.{decimalOf}
@@ -34,7 +37,8 @@ use Rattle.text.specs.Columns.{column}
 use Rattle.facilities.specs.Column.{componentText, facilityColumn}
 use Rattle.line.specs.Columns.{causeColumn, singleColumn, elementColumn, headColumns, takenColumns, columnsOf}
 use Rattle.line.specs.Line.{lineWith, lineOf}
-use Rattle.line.proofs.Words.{taken-text, refused-text}
+use Rattle.line.proofs.Words.{taken-text}
+use Rattle.refused.proofs.Words.{refused-text}
 use Rattle.capture.specs.Promises.{Octets, Bounded}
 use Rattle.capture.proofs.Framing.{by-cond}
 

@@ -1,2 +1,2 @@
-// The component that the body of a Facility element is, and how the element is written.
+// What a Facility element says: one component. `forms` reads its body, `filling` writes the element.
 pub mod facility;

@@ -8,14 +8,14 @@ use Rattle.cause.specs.declared.Cause.{Cause}
 use Rattle.component.specs.declared.facility.Component.{Component}
 use Rattle.component.specs.declared.facility.Facility.{Facility}
 use Rattle.cause.specs.Cause.{causeOf}
-use Rattle.component.specs.Facility.{facilityOf}
+use Rattle.forms.specs.Forms.{facilityOf}
 use Rattle.fields.specs.declared.Single.{Single}
 use Rattle.fields.specs.declared.Facilities.{Facilities}
 use Rattle.fields.specs.declared.Header.{Header}
 use Rattle.fields.specs.declared.Place.{Place}
 use Rattle.found.specs.declared.Seen.{Seen}
 use Rattle.found.specs.declared.Found.{Found}
-use Rattle.elements.specs.Elements.{Element}
+use Rattle.splitting.specs.Splitting.{Element}
 use Rattle.single.specs.Single.{singleOf, orSingle}
 use Rattle.found.specs.Found.{noteCause, oneMore, noteFacility, notePlace}
 use Rattle.elements.specs.Meaning.{firstSingle, firstCause, firstPlace, andSays, components, firstThree}

@@ -8,7 +8,7 @@ use Rattle.cause.specs.declared.Cause.{Cause}
 use Rattle.component.specs.declared.facility.Component.{Component}
 use Rattle.component.specs.declared.facility.Facility.{Facility}
 use Rattle.cause.specs.Cause.{causeOf}
-use Rattle.component.specs.Facility.{facilityOf}
+use Rattle.forms.specs.Forms.{facilityOf}
 use Rattle.kinds.specs.declared.Kind.{Kind}
 use Rattle.fields.specs.declared.Single.{Single}
 use Rattle.fields.specs.declared.Facilities.{Facilities}
@@ -18,7 +18,8 @@ use Rattle.single.specs.Single.{orSingle, singleOf}
 use Rattle.elements.specs.declared.Reading.{Reading}
 use Rattle.elements.specs.declared.Fault.{Fault}
 use Rattle.elements.specs.declared.Read.{Read}
-use Rattle.elements.specs.Elements.{Element, Split, cut, whole, counted}
+use Rattle.elements.specs.Elements.{counted}
+use Rattle.splitting.specs.Splitting.{Element, Split, cut, whole}
 
 -- "The first Cause and level count."
 unfoldable pub firstSingle : Kind → List Element → Single

@@ -1,2 +1,1 @@
 pub mod Heading
-pub mod Lying

@@ -1,18 +1,17 @@
 -- What a message says.
 use Prim.Native.Nat.{ℕ, _+_, _*_, _%_}
-use mathlib.Core.List.{List, []}
+use mathlib.Core.List.{List}
 use mathlib.Core.Bool.{cond}
-use lib.ListN.{length, getD, take, drop}
+use lib.ListN.{length, getD, drop}
 use lib.Dec.{ltb, leb, eqb}
 use Rattle.kinds.specs.declared.Kind.{Kind}
 use Rattle.kinds.specs.declared.Typed.{Typed}
 use Rattle.fields.specs.declared.Width.{Width}
 use Rattle.fields.specs.declared.Header.{Header}
-use Rattle.fields.specs.declared.Place.{Place}
 use Rattle.kinds.specs.Kind.{kindOf}
 use Rattle.elements.specs.declared.Fault.{Fault}
 use Rattle.elements.specs.declared.Read.{Read}
-use Rattle.elements.specs.Elements.{elements}
+use Rattle.splitting.specs.Splitting.{elements}
 use Rattle.elements.specs.Meaning.{takenOf}
 
 -- "the reference length (1 or 2)"
@@ -55,16 +54,3 @@ readOf m =
     (cond (eqb (getD m 1 0) 1) (headedOf Width.One m)
     (cond (eqb (getD m 1 0) 2) (headedOf Width.Two m) (Read.Refused Fault.Reference))))
     (Read.Refused Fault.Foreign)))
-
--- the octets at a place; none where the place does not lie in the message
-abbrev pub partOf : List ℕ → Place → List ℕ
-partOf m Place.Absent = []
-partOf m (Place.At p n) = cond (leb (p + n) (length m)) (take n (drop p m)) []
-
-abbrev pub placeIn : Read → Place
-placeIn (Read.Taken r) = r .user
-placeIn (Read.Refused f) = Place.Absent
-
--- "The reader gives back the whole user-user element as the very part of the caller's message."
-unfoldable pub userUserOf : List ℕ → List ℕ
-userUserOf m = partOf m (placeIn (readOf m))

@@ -1,12 +1,11 @@
 // Reads a message: its header, and then its elements. No octet of it is copied.
 ghost use mathlib.Core.Path.{_≡_};
 ghost use Prim.Native.Nat.{_<_, _≤_};
-ghost use Rattle.message.specs.Reading.{widthOf, referenceOf, headedOf, readOf, partOf, userUserOf};
+ghost use Rattle.message.specs.Reading.{widthOf, referenceOf, headedOf, readOf};
 use elements::Fault;
 use elements::Read;
 use elements::scan;
 use fields::Header;
-use fields::Place;
 use fields::Width;
 use kinds::Typed;
 use kinds::kind_in;
@@ -78,37 +77,5 @@ pub fn read_message(m: &[u8]) -> Read
         1 => headed(m, Width::One),
         2 => headed(m, Width::Two),
         _ => Read::Refused(Fault::Reference),
-    }
-}
-
-// The octets of a message at a place; none where the place does not lie in it.
-pub fn part<'a>(m: &'a [u8], place: Place) -> &'a [u8]
-    ensures { λ r. ⌜ now r ≡ partOf (now (m .entry)) place ⌝ }
-{
-    match place {
-        Place::Absent => &m[0..0],
-        Place::At(p, n) => {
-            if p > m.len() {
-                return &m[0..0];
-            }
-            if m.len() - p < n {
-                return &m[0..0];
-            }
-            let e = p + n;
-            &m[p..e]
-        }
-    }
-}
-
-// The whole user-user element, as the very part of the message; empty where there is none or the message is refused.
-pub fn user_user<'a>(m: &'a [u8]) -> &'a [u8]
-    ensures { λ r. ⌜ now r ≡ userUserOf (now (m .entry)) ⌝ }
-{
-    match read_message(m) {
-        Read::Refused(_) => &m[0..0],
-        Read::Taken(r) => {
-            let user = r.user;
-            part(m, user)
-        }
     }
 }

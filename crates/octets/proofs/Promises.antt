@@ -16,10 +16,12 @@ use Rattle.room.specs.Room.{placed, wroteOf, leftOf}
 use Rattle.fields.specs.declared.Message.{Message}
 use Rattle.elements.specs.declared.Read.{Read}
 use Rattle.kinds.specs.Kind.{kindOf}
-use Rattle.elements.specs.Elements.{then, elements}
+use Rattle.splitting.specs.Splitting.{then, elements}
 use Rattle.elements.specs.Meaning.{takenOf}
-use Rattle.message.specs.Reading.{headedOf, readOf, userUserOf}
-use Rattle.fitting.specs.Writing.{messageOctets, messageFits}
+use Rattle.message.specs.Reading.{headedOf, readOf}
+use Rattle.parts.specs.Parts.{userUserOf}
+use Rattle.fitting.specs.Fitting.{messageFits}
+use Rattle.sizes.specs.Writing.{messageOctets}
 use Rattle.octets.specs.Promises.{readRows, Reads, WholeElement, answerOf, bufferOf, writeRows, Write, Writes, Back, RoundTrip, Alike, Edges}
 use Rattle.octets.proofs.Table.{read-rows}
 use Rattle.octets.proofs.Whole.{whole-element}

@@ -15,7 +15,7 @@ use Rattle.fields.specs.declared.Width.{Width}
 use Rattle.fields.specs.declared.Single.{Single}
 use Rattle.fields.specs.declared.Facilities.{Facilities}
 use Rattle.fields.specs.declared.Message.{Message}
-use Rattle.fitting.specs.Writing.{referenceFits, plainFits, moreFits, levelFits, singleFits, causesFit, facilitiesFit, userFits, messageFits}
+use Rattle.fitting.specs.Fitting.{referenceFits, plainFits, moreFits, levelFits, singleFits, causesFit, facilitiesFit, userFits, messageFits}
 use Rattle.octets.specs.Promises.{highest, SingleIn, CauseIn, FacilitiesIn, UserElement, InRange}
 use Rattle.fitting.proofs.Ranges.{both, fits}
 

@@ -12,8 +12,9 @@ use lib.Seq.{take-length, drop-at}
 use lib.Dec.{leb}
 use Rattle.cause.specs.declared.Cause.{Cause}
 use Rattle.component.specs.declared.facility.Component.{Component}
-use Rattle.component.specs.Facility.{componentFits, bodyOf, facilityOctets}
-use Rattle.component.proofs.Back.{facility-back, cause-back}
+use Rattle.component.specs.Facility.{componentFits}
+use Rattle.filling.specs.Filling.{bodyOf, facilityOctets}
+use Rattle.filling.proofs.Back.{facility-back, cause-back}
 use Rattle.kinds.specs.declared.Kind.{Kind}
 use Rattle.kinds.specs.declared.Typed.{Typed}
 use Rattle.fields.specs.declared.Width.{Width}
@@ -26,19 +27,23 @@ use Rattle.found.specs.declared.Seen.{Seen}
 use Rattle.found.specs.declared.Found.{Found}
 use Rattle.elements.specs.declared.Read.{Read}
 use Rattle.kinds.specs.Kind.{kindOf, kindOctet}
-use Rattle.elements.specs.Elements.{element, elements, counted}
+use Rattle.elements.specs.Elements.{counted}
+use Rattle.splitting.specs.Splitting.{element, elements}
 use Rattle.single.specs.Single.{moreIn, levelIn, singleOf}
 use Rattle.found.specs.Found.{oneMore, causeSeen}
 use Rattle.elements.specs.Meaning.{takenOf}
-use Rattle.message.specs.Reading.{readOf, partOf, userUserOf}
+use Rattle.message.specs.Reading.{readOf}
+use Rattle.parts.specs.Parts.{partOf, userUserOf}
 use Rattle.elements.specs.Scan.{Adds, takenWith}
-use Rattle.fitting.specs.Writing.{topOf, headerOctets, headerSize, singleOctets, causesOctets, facilitiesOctets, frontOctets, messageOctets, referenceFits, plainFits, moreFits, singleFits, causesFit, facilitiesFit, messageFits}
+use Rattle.fitting.specs.Fitting.{referenceFits, plainFits, moreFits, singleFits, causesFit, facilitiesFit, messageFits}
+use Rattle.sizes.specs.Writing.{topOf, headerOctets, headerSize, singleOctets, causesOctets, facilitiesOctets, frontOctets, messageOctets}
 use Rattle.octets.specs.Promises.{UserElement, placeFor}
-use Rattle.elements.proofs.Splitting.{alone, lengthy}
+use Rattle.splitting.proofs.Splitting.{alone, lengthy}
 use Rattle.elements.proofs.Noting.{adds-cause, adds-facility, adds-place, adds-single}
 use Rattle.elements.proofs.Turns.{nothing, goingOn, at-first, at-last, notes}
 use Rattle.message.proofs.Heading.{headed-known}
-use Rattle.fitting.proofs.Ranges.{both, fits, small, front-is, message-is}
+use Rattle.fitting.proofs.Ranges.{both, fits}
+use Rattle.sizes.proofs.Sizes.{small, front-is, message-is}
 use Rattle.octets.proofs.Range.{user-in}
 
 -- THE HEADER

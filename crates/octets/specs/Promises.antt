@@ -20,8 +20,10 @@ use Rattle.fields.specs.declared.Message.{Message}
 use Rattle.fields.specs.declared.Place.{Place}
 use Rattle.elements.specs.declared.Read.{Read}
 use Rattle.kinds.specs.Kind.{kindOf}
-use Rattle.message.specs.Reading.{readOf, placeIn, userUserOf}
-use Rattle.fitting.specs.Writing.{frontOctets, messageOctets, messageFits}
+use Rattle.message.specs.Reading.{readOf}
+use Rattle.parts.specs.Parts.{placeIn, userUserOf}
+use Rattle.fitting.specs.Fitting.{messageFits}
+use Rattle.sizes.specs.Writing.{frontOctets, messageOctets}
 use Rattle.elements.specs.Numbers.{readNumber}
 
 -- READS. Octets that are whole elements, one after another.

@@ -20,14 +20,18 @@ use Rattle.call.specs.Facility.{facilityVerdictOf, facilityCallOf, passesFacili
 use Rattle.call.specs.Tick.{runsOf, passesTickOf, tickOf}
 use Rattle.call.specs.Step.{notAnEventOf}
 use Rattle.cause.specs.Cause.{causeOf}
-use Rattle.component.specs.Facility.{size, stand, spells, filled, serviceOf, wishOf, refusalOf, readAs, invokeOf, resultOf, errorOf, facilityOf as componentOf}
+use Rattle.forms.specs.Forms.{size, stand, spells, serviceOf, wishOf, refusalOf, readAs, invokeOf, resultOf, errorOf, facilityOf as componentOf}
+use Rattle.filling.specs.Filling.{filled}
 use Rattle.room.specs.Room.{placed, wroteOf, leftOf}
-use Rattle.elements.specs.Elements.{then, elements, counted}
+use Rattle.elements.specs.Elements.{counted}
+use Rattle.splitting.specs.Splitting.{then, elements}
 use Rattle.kinds.specs.Kind.{kindOf}
 use Rattle.single.specs.Single.{singleOf}
 use Rattle.elements.specs.Meaning.{firstSingle, firstCause, firstPlace, components, readingOf, takenOf}
-use Rattle.message.specs.Reading.{headedOf, readOf, userUserOf}
-use Rattle.fitting.specs.Writing.{frontOctets, messageOctets, userFits, messageFits}
+use Rattle.message.specs.Reading.{headedOf, readOf}
+use Rattle.parts.specs.Parts.{userUserOf}
+use Rattle.fitting.specs.Fitting.{userFits, messageFits}
+use Rattle.sizes.specs.Writing.{frontOctets, messageOctets}
 use Rattle.sending.specs.Samples.{Samples}
 
 pub samples : Samples

@@ -18,7 +18,7 @@ use Rattle.octets.specs.Promises.{SingleIn, CauseIn, FacilitiesIn, UserElement,
 use Rattle.octets.proofs.Promises.{reads, round-trip, writes}
 use Rattle.octets.proofs.Range.{range-fits}
 use Rattle.octets.proofs.Trip.{message-back}
-use Rattle.fitting.specs.Writing.{messageOctets}
+use Rattle.sizes.specs.Writing.{messageOctets}
 use Rattle.elements.specs.Numbers.{readNumber}
 use Rattle.causes.specs.declared.Cause.{Cause}
 use Rattle.carriage.specs.declared.Note.{Note}

@@ -6,7 +6,7 @@ use mathlib.Core.Path.{_≡_}
 use lib.ListN.{take, replicate}
 use Rattle.room.specs.declared.Wrote.{Wrote}
 use Rattle.fields.specs.declared.Width.{Width}
-use Rattle.message.specs.Reading.{userUserOf}
+use Rattle.parts.specs.Parts.{userUserOf}
 use Rattle.standing.specs.declared.Given.{Given}
 use Rattle.standing.specs.declared.Request.{Request}
 use Rattle.sent.specs.declared.Sent.{Sent}

@@ -18,8 +18,8 @@ use Rattle.fields.specs.declared.Single.{Single}
 use Rattle.fields.specs.declared.Width.{Width}
 use Rattle.kinds.specs.declared.Kind.{Kind as LineKind}
 use Rattle.elements.specs.Meaning.{andSays, firstThree}
-use Rattle.message.specs.Reading.{userUserOf}
-use Rattle.fitting.specs.Writing.{messageOctets}
+use Rattle.parts.specs.Parts.{userUserOf}
+use Rattle.sizes.specs.Writing.{messageOctets}
 use Rattle.octets.specs.Promises.{highest, answerOf, bufferOf, Back}
 use Rattle.causes.specs.declared.Cause.{Cause}
 use Rattle.standing.specs.declared.Facilities.{Facilities}

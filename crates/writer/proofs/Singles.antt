@@ -5,7 +5,7 @@ use mathlib.Core.Path.{_≡_, refl}
 use native.Mathlib.Omega.{arith}
 use lib.ListN.{getD}
 use Rattle.fields.specs.declared.Single.{Single}
-use Rattle.fitting.specs.Writing.{singleOctets}
+use Rattle.sizes.specs.Writing.{singleOctets}
 
 pub none : (s : Single) {x : ℕ} → x ≡ getD (singleOctets s) 0 0 → x ≡ 0 → singleOctets s ≡ []
 none Single.Absent e z = refl

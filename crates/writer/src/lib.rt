@@ -5,24 +5,26 @@ ghost use Prim.Native.Nat.{_≤_, _+_};
 ghost use lib.ListN.{length, getD};
 ghost use Rattle.room.specs.Room.{Written};
 ghost use Rattle.room.specs.Putting.{Put};
-ghost use Rattle.component.specs.Facility.{componentFits, facilityOctets};
-ghost use Rattle.fitting.specs.Writing.{topOf, headerOctets, singleOctets, causesOctets, facilitiesOctets, messageOctets, causesFit, facilitiesFit, messageFits};
+ghost use Rattle.component.specs.Facility.{componentFits};
+ghost use Rattle.filling.specs.Filling.{facilityOctets};
+ghost use Rattle.fitting.specs.Fitting.{causesFit, facilitiesFit, messageFits};
+ghost use Rattle.sizes.specs.Writing.{topOf, headerOctets, singleOctets, causesOctets, facilitiesOctets, messageOctets};
 use cause::Cause;
 use cause::write_cause;
 use component::facility::Component;
-use component::facility::write_facility;
 use fields::Facilities;
 use fields::Header;
 use fields::Message;
 use fields::Single;
 use fields::Width;
-use fitting::front_size;
+use filling::write_facility;
 use fitting::message_fits;
 use kinds::kind_octet;
 use room::Bar;
 use room::Wrote;
 use room::end_of;
 use room::write_octets;
+use sizes::front_size;
 
 fn top(flag: bool, r: u16) -> u8
     ensures { λ x. ⌜ x ≡ topOf flag r ⌝ }

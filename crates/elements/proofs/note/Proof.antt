@@ -1,12 +1,12 @@
 use native.Mathlib.Omega.{arith}
-use Rattle.elements.proofs.Splitting.{counts}
+use Rattle.splitting.proofs.Splitting.{counts}
 use Rattle.elements.proofs.Noting.{adds-cause, adds-facility, adds-place, adds-single}
 use borrow.Author.Needs.{needs}
 use Rattle.elements.proofs.note.Statement.{statement}
 use Rattle.elements.proofs.note.Tie as tie
 use Rattle.elements.proofs.note.Reads as reads
 use Rattle.elements.proofs.note.Lts as lts
-use Rattle.component.proofs.facility.facility_in.Reads as facility-in-reads
+use Rattle.forms.proofs.facility_in.Reads as facility-in-reads
 use Rattle.found.proofs.first_cause.Reads as first-cause-reads
 use Rattle.found.proofs.first_place.Reads as first-place-reads
 use Rattle.single.proofs.first_single.Reads as first-single-reads

@@ -1,4 +1,4 @@
-use Rattle.fitting.specs.Writing.{messageFits}
+use Rattle.fitting.specs.Fitting.{messageFits}
 use borrow.Author.Needs.{needs}
 use Rattle.fitting.proofs.message_fits.Statement.{statement}
 use Rattle.fitting.proofs.message_fits.Tie as tie

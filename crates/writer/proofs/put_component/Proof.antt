@@ -4,7 +4,7 @@ use Rattle.writer.proofs.put_component.Statement.{statement}
 use Rattle.writer.proofs.put_component.Tie as tie
 use Rattle.writer.proofs.put_component.Reads as reads
 use Rattle.writer.proofs.put_component.Lts as lts
-use Rattle.component.proofs.facility.write_facility.Reads as write-facility-reads
+use Rattle.filling.proofs.write_facility.Reads as write-facility-reads
 use Rattle.room.proofs.end_of.Reads as end-of-reads
 
 write-facility-requires : tie.Need-write-facility-requires

@@ -1,8 +1,9 @@
 use mathlib.Core.Path.{refl}
 use native.Mathlib.Omega.{arith}
-use Rattle.fitting.specs.Writing.{frontOctets, messageOctets}
+use Rattle.sizes.specs.Writing.{frontOctets, messageOctets}
 use Rattle.room.proofs.Pieces.{five-puts, settles}
-use Rattle.fitting.proofs.Ranges.{fits, size-is}
+use Rattle.fitting.proofs.Ranges.{fits}
+use Rattle.sizes.proofs.Sizes.{size-is}
 use borrow.Author.Needs.{needs}
 use Rattle.writer.proofs.put_message.Statement.{statement}
 use Rattle.writer.proofs.put_message.Tie as tie

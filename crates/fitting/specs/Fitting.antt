@@ -1,0 +1,76 @@
+-- The fields of a message that are in range.
+use Prim.Native.Nat.{ℕ, _-_}
+use mathlib.Core.List.{List}
+use mathlib.Core.Bool.{Bool, true, false, cond, _&&_}
+use lib.ListN.{length, getD}
+use lib.Dec.{ltb, eqb}
+use Rattle.cause.specs.declared.Cause.{Cause}
+use Rattle.cause.specs.Cause.{causeFits}
+use Rattle.component.specs.Facility.{componentFits}
+use Rattle.kinds.specs.declared.Kind.{Kind}
+use Rattle.fields.specs.declared.Width.{Width}
+use Rattle.fields.specs.declared.Single.{Single}
+use Rattle.fields.specs.declared.Facilities.{Facilities}
+use Rattle.fields.specs.declared.Message.{Message}
+
+-- "references 0 to 127 or to 32767 by length"
+abbrev pub referenceFits : Width → ℕ → Bool
+referenceFits Width.One r = ltb r 128
+referenceFits Width.Two r = ltb r 32768
+
+-- no single octet; none or More data; a congestion level
+abbrev pub plainFits : Single → Bool
+plainFits Single.Absent = true
+plainFits Single.MoreData = false
+plainFits Single.Ready = false
+plainFits Single.NotReady = false
+
+abbrev pub moreFits : Single → Bool
+moreFits Single.Absent = true
+moreFits Single.MoreData = true
+moreFits Single.Ready = false
+moreFits Single.NotReady = false
+
+abbrev pub levelFits : Single → Bool
+levelFits Single.Absent = false
+levelFits Single.MoreData = false
+levelFits Single.Ready = true
+levelFits Single.NotReady = true
+
+-- "More data belongs to USER INFORMATION only, and a congestion level to CONGESTION CONTROL, where the writer demands it;
+-- elsewhere the writer gives 7"
+abbrev pub singleFits : Kind → Single → Bool
+singleFits Kind.Alerting s = plainFits s
+singleFits Kind.CallProceeding s = plainFits s
+singleFits Kind.Setup s = plainFits s
+singleFits Kind.Connect s = plainFits s
+singleFits Kind.UserInformation s = moreFits s
+singleFits Kind.Disconnect s = plainFits s
+singleFits Kind.ReleaseComplete s = plainFits s
+singleFits Kind.Facility s = plainFits s
+singleFits Kind.CongestionControl s = levelFits s
+
+abbrev pub causesFit : Cause → Bool
+causesFit Cause.Absent = true
+causesFit (Cause.Value v) = causeFits v
+
+abbrev pub facilitiesFit : Facilities → Bool
+facilitiesFit Facilities.Zero = true
+facilitiesFit (Facilities.One a) = componentFits a
+facilitiesFit (Facilities.Two a b) = componentFits a && componentFits b
+facilitiesFit (Facilities.Three a b c) = (componentFits a && componentFits b) && componentFits c
+
+-- "elements 2 to 131 octets beginning 7E and the length less 2"; no octets at all is an absent element
+unfoldable pub userFits : List ℕ → Bool
+userFits u =
+    cond (eqb (length u) 0) true
+    (cond (ltb (length u) 2) false
+    (cond (ltb 131 (length u)) false
+    (cond (eqb (getD u 0 0) 0x7E) (eqb (getD u 1 0) (length u - 2)) false)))
+
+-- 7 "a field out of range", otherwise
+unfoldable pub messageFits : Message → List ℕ → Bool
+messageFits w user =
+    (((referenceFits (w .header .width) (w .header .reference) && singleFits (w .header .kind) (w .single)) && causesFit (w .cause))
+    && facilitiesFit (w .facility))
+    && userFits user
