@@ -1,4 +1,4 @@
--- What a message says, as `explain` prints it: these items .. in this order.
+-- What a message says, as `explain` prints it: each `-` for no message, or these items joined by `,` in this order.
 use Prim.Native.Nat.{ℕ}
 use mathlib.Core.List.{List, [], _∷_, _++_}
 use mathlib.Core.Bool.{Bool, true, false}
@@ -6,7 +6,9 @@ use Rattle.causes.specs.declared.Cause.{Cause}
 use Rattle.standing.specs.declared.Said.{Said}
 use Rattle.sent.specs.declared.Level.{Level}
 use Rattle.sent.specs.declared.Message.{Message}
+use Rattle.sent.specs.declared.Sent.{Sent}
 use Rattle.text.specs.Decimal.{decimalOf}
+use Rattle.text.specs.Columns.{dash}
 
 -- `cause.N`
 abbrev pub causeItem : Cause → List (List ℕ)
@@ -49,3 +51,13 @@ itemsOf m =
 unfoldable pub commas : List (List ℕ) → List ℕ
 commas [] = []
 commas (i ∷ is) = 44 ∷ (i ++ commas is)
+
+-- joined by `,`, and `bare` where there is none of these
+unfoldable pub joined : List (List ℕ) → List ℕ
+joined [] = 98 ∷ 97 ∷ 114 ∷ 101 ∷ []
+joined (i ∷ is) = i ++ commas is
+
+-- each `-` for no message
+abbrev pub messageColumn : Sent → List ℕ
+messageColumn Sent.Absent = dash
+messageColumn (Sent.Present m) = joined (itemsOf m)

@@ -31,8 +31,7 @@ use Rattle.trace.specs.Reading.{referenceOf, threeFitOf, fieldAtOf, setupRanged
 use Rattle.trace.proofs.Tests.{both}
 use Rattle.text.specs.Decimal.{digitsOf, decimalOf}
 use Rattle.text.specs.Hex.{digitOf}
-use Rattle.items.specs.Items.{itemsOf, commas}
-use Rattle.joining.specs.Joining.{joined}
+use Rattle.items.specs.Items.{itemsOf, commas, joined}
 use Rattle.report.specs.Line.{numberColumns, typeColumns, lineOf}
 use Rattle.fronts.specs.Fronts.{frontOf}
 use Rattle.entries.specs.Entries.{columnsOf}

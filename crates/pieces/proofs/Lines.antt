@@ -26,8 +26,7 @@ use Rattle.trace.specs.Reading.{faultNumber, referenceOf, entryOf, elementOf}
 use Rattle.text.specs.Decimal.{decimalOf}
 use Rattle.text.proofs.Digits.{at-most}
 use Rattle.report.specs.declared.Columns.{Columns}
-use Rattle.items.specs.Items.{causeItem, levelItem, saidItem, moreItem, elementItem, itemsOf, commas}
-use Rattle.joining.specs.Joining.{joined, messageColumn}
+use Rattle.items.specs.Items.{causeItem, levelItem, saidItem, moreItem, elementItem, itemsOf, commas, joined, messageColumn}
 use Rattle.report.specs.Line.{typeColumn, saidColumns, numberColumns, typeColumns, lineOf}
 use Rattle.notices.specs.Notices.{faultLine}
 use Rattle.entries.specs.Entries.{columnsOf}

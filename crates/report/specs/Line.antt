@@ -9,7 +9,7 @@ use Rattle.body.specs.Kind.{kindOctet}
 use Rattle.text.specs.Decimal.{decimalOf}
 use Rattle.text.specs.Hex.{hexOf}
 use Rattle.text.specs.Columns.{dash, column}
-use Rattle.joining.specs.Joining.{messageColumn}
+use Rattle.items.specs.Items.{messageColumn}
 use Rattle.report.specs.declared.Columns.{Columns}
 
 -- "the last two columns the type sent in hexadecimal or `-`"

@@ -12,7 +12,7 @@ ghost use Rattle.report.specs.Line.{typeColumn, saidColumns, numberColum
 use body::kind::Kind;
 use carriage::Note;
 use carriage::note_number;
-use joining::write_sent;
+use items::write_sent;
 use room::Wrote;
 use room::end_of;
 use room::write_octets;

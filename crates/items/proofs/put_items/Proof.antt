@@ -1,5 +1,5 @@
 use Rattle.items.specs.Items.{itemsOf}
-use Rattle.items.proofs.Together.{seven}
+use Rattle.items.proofs.Joining.{seven}
 use borrow.Author.Needs.{needs}
 use Rattle.items.proofs.put_items.Statement.{statement}
 use Rattle.items.proofs.put_items.Tie as tie

@@ -1,10 +1,10 @@
 use native.Mathlib.Omega.{arith}
 use lib.ListN.{length-set}
 use Rattle.text.proofs.Pieced.{octet}
-use Rattle.joining.proofs.Joining.{bare-column, items-column}
+use Rattle.items.proofs.Joining.{bare-column, items-column}
 use borrow.Author.Needs.{needs}
-use Rattle.joining.proofs.put_message.Statement.{statement}
-use Rattle.joining.proofs.put_message.Tie as tie
+use Rattle.items.proofs.put_message.Statement.{statement}
+use Rattle.items.proofs.put_message.Tie as tie
 
 put-items-requires : tie.Need-put-items-requires
 put-items-requires c κs = search needs

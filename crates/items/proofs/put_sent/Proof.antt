@@ -1,8 +1,8 @@
 use native.Mathlib.Omega.{arith}
 use Rattle.text.proofs.Pieced.{spelled}
 use borrow.Author.Needs.{needs}
-use Rattle.joining.proofs.put_sent.Statement.{statement}
-use Rattle.joining.proofs.put_sent.Tie as tie
+use Rattle.items.proofs.put_sent.Statement.{statement}
+use Rattle.items.proofs.put_sent.Tie as tie
 
 enum-told : tie.Need-enum-told
 enum-told c = search needs

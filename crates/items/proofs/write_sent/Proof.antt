@@ -3,8 +3,8 @@ use mathlib.Core.Path.{refl}
 use Rattle.room.proofs.Outcome.{put-in}
 use Rattle.text.proofs.Pieced.{at-start}
 use borrow.Author.Needs.{needs}
-use Rattle.joining.proofs.write_sent.Statement.{statement}
-use Rattle.joining.proofs.write_sent.Tie as tie
+use Rattle.items.proofs.write_sent.Statement.{statement}
+use Rattle.items.proofs.write_sent.Tie as tie
 
 sub-if2 : tie.Need-sub-if2
 sub-if2 c = search needs
