@@ -24,8 +24,7 @@ use Rattle.fields.specs.declared.Place.{Place}
 use Rattle.elements.specs.declared.Reading.{Reading}
 use Rattle.elements.specs.declared.Read.{Read}
 use Rattle.kinds.specs.Kind.{kindOf}
-use Rattle.elements.specs.Elements.{counted}
-use Rattle.splitting.specs.Splitting.{Element, Split, cut, whole, elements}
+use Rattle.elements.specs.Elements.{Element, Split, cut, whole, elements, counted}
 use Rattle.elements.specs.Meaning.{firstCause, andSays, components, firstThree, readingOf, takenOf}
 use Rattle.message.specs.Reading.{widthOf, referenceOf, typedOf, headedOf, readOf}
 use Rattle.parts.specs.Parts.{placeIn}
@@ -37,8 +36,7 @@ use Rattle.text.specs.Columns.{column}
 use Rattle.facilities.specs.Column.{componentText, facilityColumn}
 use Rattle.line.specs.Columns.{causeColumn, singleColumn, elementColumn, headColumns, takenColumns, columnsOf}
 use Rattle.line.specs.Line.{lineWith, lineOf}
-use Rattle.line.proofs.Words.{taken-text}
-use Rattle.refused.proofs.Words.{refused-text}
+use Rattle.line.proofs.Words.{taken-text, refused-text}
 use Rattle.capture.specs.Promises.{Octets, Bounded}
 use Rattle.capture.proofs.Framing.{by-cond}
 

@@ -15,7 +15,7 @@ use Rattle.fields.specs.declared.Header.{Header}
 use Rattle.fields.specs.declared.Place.{Place}
 use Rattle.found.specs.declared.Seen.{Seen}
 use Rattle.found.specs.declared.Found.{Found}
-use Rattle.splitting.specs.Splitting.{Element}
+use Rattle.elements.specs.Elements.{Element}
 use Rattle.single.specs.Single.{singleOf, orSingle}
 use Rattle.found.specs.Found.{noteCause, oneMore, noteFacility, notePlace}
 use Rattle.elements.specs.Meaning.{firstSingle, firstCause, firstPlace, andSays, components, firstThree}

@@ -16,14 +16,13 @@ use Rattle.found.specs.declared.Seen.{Seen}
 use Rattle.found.specs.declared.Found.{Found}
 use Rattle.elements.specs.declared.Fault.{Fault}
 use Rattle.elements.specs.declared.Read.{Read}
-use Rattle.splitting.specs.declared.End.{End}
-use Rattle.elements.specs.Elements.{counted}
-use Rattle.splitting.specs.Splitting.{Element, Split, cut, whole, then, elements, between, Ended, Ends}
+use Rattle.elements.specs.declared.End.{End}
+use Rattle.elements.specs.Elements.{Element, Split, cut, whole, then, elements, counted, between, Ended, Ends}
 use Rattle.single.specs.Single.{orSingle}
 use Rattle.found.specs.Found.{causeSeen}
 use Rattle.elements.specs.Meaning.{firstSingle, firstCause, firstPlace, components, firstThree, readingOf, takenOf}
 use Rattle.elements.specs.Scan.{causeThen, listed, placeThen, readingFrom, Adds, takenWith}
-use Rattle.splitting.proofs.Splitting.{none-left}
+use Rattle.elements.proofs.Splitting.{none-left}
 
 -- what the end of an element says, by its answer
 module _ (m : List ℕ) (i : ℕ) (x : End) where

@@ -18,8 +18,7 @@ use Rattle.single.specs.Single.{orSingle, singleOf}
 use Rattle.elements.specs.declared.Reading.{Reading}
 use Rattle.elements.specs.declared.Fault.{Fault}
 use Rattle.elements.specs.declared.Read.{Read}
-use Rattle.elements.specs.Elements.{counted}
-use Rattle.splitting.specs.Splitting.{Element, Split, cut, whole}
+use Rattle.elements.specs.Elements.{Element, Split, cut, whole, counted}
 
 -- "The first Cause and level count."
 unfoldable pub firstSingle : Kind → List Element → Single

@@ -10,7 +10,7 @@ use Rattle.elements.specs.declared.Reading.{Reading}
 use Rattle.elements.specs.declared.Read.{Read}
 use Rattle.found.specs.declared.Seen.{Seen}
 use Rattle.found.specs.declared.Found.{Found}
-use Rattle.splitting.specs.Splitting.{Element}
+use Rattle.elements.specs.Elements.{Element}
 use Rattle.single.specs.Single.{orSingle}
 use Rattle.found.specs.Found.{causeSeen}
 use Rattle.elements.specs.Meaning.{firstSingle, firstCause, firstPlace, components, firstThree}

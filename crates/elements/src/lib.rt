@@ -2,7 +2,7 @@
 ghost use mathlib.Core.Path.{_≡_};
 ghost use Prim.Native.Nat.{_<_, _≤_, _+_};
 ghost use lib.ListN.{length, getD, drop};
-ghost use Rattle.splitting.specs.Splitting.{between, elements};
+ghost use Rattle.elements.specs.Elements.{Ends, between, elements};
 ghost use Rattle.elements.specs.Meaning.{takenOf};
 ghost use Rattle.elements.specs.Scan.{Adds, takenWith};
 use fields::Facilities;
@@ -19,8 +19,6 @@ use found::first_place;
 use found::with_facility;
 use single::first_single;
 use single::single_in;
-use splitting::End;
-use splitting::end_of;
 
 pub struct Reading {
     pub message: Message,
@@ -40,6 +38,35 @@ pub enum Fault {
 pub enum Read {
     Taken(Reading),
     Refused(Fault),
+}
+
+// Where the element at a place ends, if it does.
+enum End {
+    To(usize),
+    Cut,
+}
+
+fn wide(x: u8) -> usize
+    ensures { λ r. ⌜ r ≡ x ⌝ }
+{
+    x as usize
+}
+
+fn end_of(m: &[u8], i: usize) -> End
+    requires { ⌜ i < length (now m) ⌝ }
+    ensures { λ r. ⌜ Ends (now (m .entry)) i r ⌝ }
+{
+    if m[i] >= 0x80 {
+        return End::To(i + 1);
+    }
+    if m.len() - i < 2 {
+        return End::Cut;
+    }
+    let n = wide(m[i + 1]);
+    if m.len() - i - 2 < n {
+        return End::Cut;
+    }
+    End::To(i + 2 + n)
 }
 
 // What the element of m from i to e adds to what was found.

@@ -9,11 +9,11 @@ use Rattle.fields.specs.declared.Place.{Place}
 use Rattle.elements.specs.declared.Reading.{Reading}
 use Rattle.elements.specs.declared.Read.{Read}
 use Rattle.kinds.specs.Kind.{kindOctet}
+use Rattle.elements.specs.Numbers.{readNumber}
 use Rattle.text.specs.Decimal.{decimalOf}
 use Rattle.text.specs.Hex.{hexOf}
 use Rattle.text.specs.Columns.{column, dash}
 use Rattle.facilities.specs.Column.{facilityColumn}
-use Rattle.refused.specs.Refused.{refusedColumns}
 
 -- flag 0 or 1
 abbrev pub flagDigit : Bool → ℕ
@@ -50,4 +50,5 @@ takenColumns r =
 -- the number 0 to 5, and if that is not 0 a `-` in each of the other seven columns
 unfoldable pub columnsOf : Read → List ℕ
 columnsOf (Read.Taken r) = takenColumns r
-columnsOf (Read.Refused f) = refusedColumns f
+columnsOf (Read.Refused f) =
+    column (decimalOf (readNumber (Read.Refused f))) ++ column dash ++ column dash ++ column dash ++ column dash ++ column dash ++ column dash ++ column dash

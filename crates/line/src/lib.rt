@@ -5,6 +5,7 @@ ghost use mathlib.Core.List.{_∷_, _++_};
 ghost use Prim.Native.Nat.{_+_, _≤_};
 ghost use lib.ListN.{length};
 ghost use Rattle.room.specs.Room.{Written};
+ghost use Rattle.elements.specs.Numbers.{faultNumber};
 ghost use Rattle.text.specs.Decimal.{decimalOf};
 ghost use Rattle.text.specs.Hex.{hexOf};
 ghost use Rattle.text.specs.Pieces.{Piece};
@@ -13,6 +14,7 @@ ghost use Rattle.facilities.specs.Column.{facilityColumn};
 ghost use Rattle.line.specs.Columns.{flagDigit, headColumns, causeColumn, singleColumn, elementColumn, takenColumns, columnsOf};
 ghost use Rattle.line.specs.Line.{lineOf};
 use cause::Cause;
+use elements::Fault;
 use elements::Read;
 use elements::Reading;
 use facilities::write_facilities;
@@ -22,7 +24,6 @@ use fields::Place;
 use fields::Single;
 use kinds::kind_octet;
 use message::reader::read_message;
-use refused::put_refused;
 use room::Wrote;
 use room::end_of;
 use room::write_octets;
@@ -137,6 +138,27 @@ fn put_taken(buf: &mut [u8], at: usize, r: Reading) -> usize
     buf[at + 1] = b'0';
     let a = put_message(buf, at + 2, message);
     put_element(buf, a, user)
+}
+
+fn fault_digit(f: Fault) -> u8
+    ensures { λ r. ⌜ r ≡ 48 + faultNumber f ⌝ }
+{
+    match f {
+        Fault::Short => b'1',
+        Fault::TooLong => b'2',
+        Fault::Foreign => b'3',
+        Fault::Reference => b'4',
+        Fault::Kind => b'5',
+    }
+}
+
+fn put_refused(buf: &mut [u8], at: usize, f: Fault) -> usize
+    requires { ⌜ at + 16 ≤ length (now buf) ⌝ }
+    ensures { λ r. ⌜ Piece 16 at (columnsOf (Read.Refused f)) (now (buf .entry)) (now (buf .exit)) r ⌝ }
+{
+    buf[at] = b' ';
+    buf[at + 1] = fault_digit(f);
+    end_of(write_octets(buf, at + 2, b" - - - - - - -"))
 }
 
 // The columns after the first.

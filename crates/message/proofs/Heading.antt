@@ -10,7 +10,7 @@ use Rattle.fields.specs.declared.Width.{Width}
 use Rattle.elements.specs.declared.Fault.{Fault}
 use Rattle.elements.specs.declared.Read.{Read}
 use Rattle.kinds.specs.Kind.{kindOf}
-use Rattle.splitting.specs.Splitting.{elements}
+use Rattle.elements.specs.Elements.{elements}
 use Rattle.elements.specs.Meaning.{takenOf}
 use Rattle.message.specs.Reading.{widthOf, headerOf, typedOf, headedOf}
 

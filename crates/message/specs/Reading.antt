@@ -11,7 +11,7 @@ use Rattle.fields.specs.declared.Header.{Header}
 use Rattle.kinds.specs.Kind.{kindOf}
 use Rattle.elements.specs.declared.Fault.{Fault}
 use Rattle.elements.specs.declared.Read.{Read}
-use Rattle.splitting.specs.Splitting.{elements}
+use Rattle.elements.specs.Elements.{elements}
 use Rattle.elements.specs.Meaning.{takenOf}
 
 -- "the reference length (1 or 2)"

@@ -16,7 +16,7 @@ use Rattle.room.specs.Room.{placed, wroteOf, leftOf}
 use Rattle.fields.specs.declared.Message.{Message}
 use Rattle.elements.specs.declared.Read.{Read}
 use Rattle.kinds.specs.Kind.{kindOf}
-use Rattle.splitting.specs.Splitting.{then, elements}
+use Rattle.elements.specs.Elements.{then, elements}
 use Rattle.elements.specs.Meaning.{takenOf}
 use Rattle.message.specs.Reading.{headedOf, readOf}
 use Rattle.parts.specs.Parts.{userUserOf}

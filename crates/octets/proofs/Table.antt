@@ -16,12 +16,12 @@ use Rattle.fields.specs.declared.Header.{Header}
 use Rattle.elements.specs.declared.Fault.{Fault}
 use Rattle.elements.specs.declared.Read.{Read}
 use Rattle.kinds.specs.Kind.{kindOf}
-use Rattle.splitting.specs.Splitting.{Element, Split, cut, whole, then, elements}
+use Rattle.elements.specs.Elements.{Element, Split, cut, whole, then, elements}
 use Rattle.elements.specs.Meaning.{takenOf}
 use Rattle.message.specs.Reading.{widthOf, headerOf, typedOf, headedOf, readOf}
 use Rattle.elements.specs.Numbers.{faultNumber, readNumber}
 use Rattle.octets.specs.Promises.{Whole, none, alone, announced, readRows}
-use Rattle.splitting.proofs.Splitting as split
+use Rattle.elements.proofs.Splitting as split
 use Rattle.octets.proofs.Cases.{by-cond}
 
 abbrev isWhole : Split → Bool

@@ -27,8 +27,7 @@ use Rattle.found.specs.declared.Seen.{Seen}
 use Rattle.found.specs.declared.Found.{Found}
 use Rattle.elements.specs.declared.Read.{Read}
 use Rattle.kinds.specs.Kind.{kindOf, kindOctet}
-use Rattle.elements.specs.Elements.{counted}
-use Rattle.splitting.specs.Splitting.{element, elements}
+use Rattle.elements.specs.Elements.{element, elements, counted}
 use Rattle.single.specs.Single.{moreIn, levelIn, singleOf}
 use Rattle.found.specs.Found.{oneMore, causeSeen}
 use Rattle.elements.specs.Meaning.{takenOf}
@@ -38,7 +37,7 @@ use Rattle.elements.specs.Scan.{Adds, takenWith}
 use Rattle.fitting.specs.Fitting.{referenceFits, plainFits, moreFits, singleFits, causesFit, facilitiesFit, messageFits}
 use Rattle.sizes.specs.Writing.{topOf, headerOctets, headerSize, singleOctets, causesOctets, facilitiesOctets, frontOctets, messageOctets}
 use Rattle.octets.specs.Promises.{UserElement, placeFor}
-use Rattle.splitting.proofs.Splitting.{alone, lengthy}
+use Rattle.elements.proofs.Splitting.{alone, lengthy}
 use Rattle.elements.proofs.Noting.{adds-cause, adds-facility, adds-place, adds-single}
 use Rattle.elements.proofs.Turns.{nothing, goingOn, at-first, at-last, notes}
 use Rattle.message.proofs.Heading.{headed-known}

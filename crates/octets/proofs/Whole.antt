@@ -15,14 +15,13 @@ use Rattle.fields.specs.declared.Header.{Header}
 use Rattle.fields.specs.declared.Place.{Place}
 use Rattle.elements.specs.declared.Read.{Read}
 use Rattle.kinds.specs.Kind.{kindOf}
-use Rattle.elements.specs.Elements.{locking, shifting, counted}
-use Rattle.splitting.specs.Splitting.{element, Split, cut, whole, then, elements}
-use Rattle.splitting.specs.Splitting as el
+use Rattle.elements.specs.Elements.{element, Split, cut, whole, then, elements, locking, shifting, counted}
+use Rattle.elements.specs.Elements as el
 use Rattle.elements.specs.Meaning.{firstPlace, readingOf, takenOf}
 use Rattle.message.specs.Reading.{widthOf, headerOf, typedOf, headedOf, readOf}
 use Rattle.parts.specs.Parts.{placeIn, userUserOf}
 use Rattle.octets.specs.Promises as promise
-use Rattle.splitting.proofs.Splitting.{short}
+use Rattle.elements.proofs.Splitting.{short}
 use Rattle.octets.proofs.Cases.{by-cond}
 
 module _ (m : List ℕ) where

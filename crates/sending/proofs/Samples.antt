@@ -23,8 +23,7 @@ use Rattle.cause.specs.Cause.{causeOf}
 use Rattle.forms.specs.Forms.{size, stand, spells, serviceOf, wishOf, refusalOf, readAs, invokeOf, resultOf, errorOf, facilityOf as componentOf}
 use Rattle.filling.specs.Filling.{filled}
 use Rattle.room.specs.Room.{placed, wroteOf, leftOf}
-use Rattle.elements.specs.Elements.{counted}
-use Rattle.splitting.specs.Splitting.{then, elements}
+use Rattle.elements.specs.Elements.{then, elements, counted}
 use Rattle.kinds.specs.Kind.{kindOf}
 use Rattle.single.specs.Single.{singleOf}
 use Rattle.elements.specs.Meaning.{firstSingle, firstCause, firstPlace, components, readingOf, takenOf}

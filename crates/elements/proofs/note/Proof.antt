@@ -1,5 +1,5 @@
 use native.Mathlib.Omega.{arith}
-use Rattle.splitting.proofs.Splitting.{counts}
+use Rattle.elements.proofs.Splitting.{counts}
 use Rattle.elements.proofs.Noting.{adds-cause, adds-facility, adds-place, adds-single}
 use borrow.Author.Needs.{needs}
 use Rattle.elements.proofs.note.Statement.{statement}

@@ -4,7 +4,7 @@ use mathlib.Core.Path.{_≡_, _∙_}
 use mathlib.Core.Logic.{⊎-elim, inl, inr}
 use native.Mathlib.Omega.{arith}
 use lib.ListN.{length, drop}
-use Rattle.splitting.specs.Splitting.{elements}
+use Rattle.elements.specs.Elements.{elements}
 use Rattle.elements.proofs.Turns.{to, is-cut, goingOn, locked, at-first, on-pass, on-lock, on-shift, on-note, on-rest, out-cut, out-cut-rest, out-end, out-rest}
 use Rattle.elements.specs.Meaning.{takenOf}
 use borrow.Author.Needs.{needs}

@@ -28,7 +28,6 @@ same-length-2 : tie.Need-same-length-2
 same-length-2 c = search needs
 
 returns-2 : tie.Need-returns-2
-unfolding columnsOf
 returns-2 c = spelled (simp (c .before .before .before .before .before .r2 .given .1)) (omega arith) (c .before .before .put-refused .ensures)
 
 pub put-columns-spec : {M : Type 1} → statement M

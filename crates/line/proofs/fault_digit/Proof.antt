@@ -1,6 +1,6 @@
 use borrow.Author.Needs.{needs}
-use Rattle.refused.proofs.fault_digit.Statement.{statement}
-use Rattle.refused.proofs.fault_digit.Tie as tie
+use Rattle.line.proofs.fault_digit.Statement.{statement}
+use Rattle.line.proofs.fault_digit.Tie as tie
 
 enum-told : tie.Need-enum-told
 enum-told c = search needs

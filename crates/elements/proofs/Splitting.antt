@@ -7,7 +7,7 @@ use native.Mathlib.Numerals.{add-one}
 use borrow.Author.Tests.{le-leb, lt-leb}
 use lib.ListN.{length, getD, take, drop, length-take, length-drop, drop-of-length-le, length-append}
 use lib.Seq.{drop-cons, drop-drop, getD-drop, take-append-seam, drop-append-seam}
-use Rattle.splitting.specs.Splitting.{Element, element, cut, whole, then, elements, Ended}
+use Rattle.elements.specs.Elements.{Element, element, cut, whole, then, elements, Ended}
 
 -- past k octets that are there
 skip : (p q k : ℕ) (l : List ℕ) → p + k ≡ q → k ≤ length l → elements p k l ≡ elements q 0 (drop k l)

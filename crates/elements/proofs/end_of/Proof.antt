@@ -1,9 +1,9 @@
 -- Each answer is the turn of the recursion that splits the octets.
 use native.Mathlib.Omega.{arith}
 use borrow.Author.Needs.{needs}
-use Rattle.splitting.proofs.Splitting.{ends-alone, ends-lengthy, ends-cut}
-use Rattle.splitting.proofs.end_of.Statement.{statement}
-use Rattle.splitting.proofs.end_of.Tie as tie
+use Rattle.elements.proofs.Splitting.{ends-alone, ends-lengthy, ends-cut}
+use Rattle.elements.proofs.end_of.Statement.{statement}
+use Rattle.elements.proofs.end_of.Tie as tie
 
 shared-slice-read-if1 : tie.Need-shared-slice-read-if1
 shared-slice-read-if1 c = search needs

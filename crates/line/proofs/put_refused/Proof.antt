@@ -2,10 +2,11 @@ use native.Mathlib.Omega.{arith}
 use mathlib.Core.Path.{_∙_}
 use lib.ListN.{length-set}
 use Rattle.text.proofs.Pieced.{settled, spelled, two, two-octets}
-use Rattle.refused.proofs.Words.{refused-text}
+use Rattle.line.specs.Columns.{columnsOf}
+use Rattle.line.proofs.Words.{refused-text}
 use borrow.Author.Needs.{needs}
-use Rattle.refused.proofs.put_refused.Statement.{statement}
-use Rattle.refused.proofs.put_refused.Tie as tie
+use Rattle.line.proofs.put_refused.Statement.{statement}
+use Rattle.line.proofs.put_refused.Tie as tie
 
 slice-write-buf : tie.Need-slice-write-buf
 slice-write-buf c = search needs
@@ -35,6 +36,7 @@ same-length : tie.Need-same-length
 same-length c = c .before .before .buf .given ∙ simp length-set
 
 returns : tie.Need-returns
+unfolding columnsOf
 returns c = spelled (simp (refused-text, c .before .before .before .before .before .before .fault-digit .ensures)) (omega arith) (two (c .before .before .before .before .before .before .before .before .pre) (two-octets (omega arith)) (settled {most = 14} (simp length-set (omega arith)) (omega arith) (c .before .before .before .write-octets .ensures) (c .end-of .ensures)))
 
 pub put-refused-spec : {M : Type 1} → statement M
