@@ -14,7 +14,8 @@ use Rattle.standing.specs.Standing.{remainsOf, noServices}
 use Rattle.requests.specs.Requests.{firstStandingOf, standingsOf, lacksOf, setupPhaseOf, setupCarriesOf}
 use Rattle.fates.specs.Fates.{failedOf, settlesOf, alertingFatesOf}
 use Rattle.asking.specs.Asking.{nobodyAsks}
-use Rattle.meters.specs.Meters.{emptyMeters, refillsOf}
+use Rattle.meters.specs.Meters.{emptyMeters}
+use Rattle.ticking.specs.Ticking.{refillsOf}
 use Rattle.call.specs.Sound.{freshCall, fieldsFitOf, soundOf, inPhaseOf}
 use Rattle.call.specs.Reply.{barOf, refusedOf, heardOf, replyOf}
 use Rattle.call.specs.Setup.{filledOf, proceedsOf, setupOf}

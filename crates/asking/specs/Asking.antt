@@ -2,19 +2,13 @@
 use mathlib.Core.Bool.{Bool, true, false, cond, _&&_, _||_, not}
 use Rattle.rights.specs.declared.Rights.{Rights}
 use Rattle.rights.specs.declared.Service.{Service}
-use Rattle.standing.specs.declared.Said.{Said}
 use Rattle.standing.specs.declared.Standing.{Standing}
 use Rattle.numbers.specs.declared.Answer.{Answer}
 use Rattle.asking.specs.declared.Asking.{Asking}
 use Rattle.asking.specs.declared.What.{What}
 use Rattle.sides.specs.declared.Side.{Side}
 use Rattle.rights.specs.Rights.{hasOf}
-use Rattle.numbers.specs.Answer.{takenOf}
 use Rattle.sides.specs.Side.{peerOf}
-use Rattle.causes.specs.declared.Cause.{Cause}
-use Rattle.sent.specs.declared.Kind.{Kind}
-use Rattle.sent.specs.declared.Sent.{Sent}
-use Rattle.sent.specs.Message.{sayingOf, onlyIfOf}
 
 unfoldable pub nobodyAsks : Asking
 nobodyAsks = record { calling = false; called = false }
@@ -56,13 +50,6 @@ verdictOf r a force side what =
     (toRequestOf (mayAskOf r side) (force || asksOf a side))
     (toAnswerOf (force || not (asksOf a (peerOf side))))
 
--- what is passed to the other user
-abbrev pub facilitySaidOf : What → Said
-facilitySaidOf What.Preferred = Said.Preferred
-facilitySaidOf What.Accept = Said.Accepted
-facilitySaidOf What.Reject = Said.ByUser
-facilitySaidOf What.Required = Said.Required
-
 -- "Accept puts the service in force and closes both; reject closes the one."
 abbrev pub facilityAskingOf : Asking → Side → What → Asking
 facilityAskingOf a side What.Preferred = withAskOf a side true
@@ -76,29 +63,3 @@ facilityThreeOf s What.Preferred = s
 facilityThreeOf s What.Accept = Standing.InForce
 facilityThreeOf s What.Reject = s
 facilityThreeOf s What.Required = s
-
--- 16 and no other
-abbrev pub notGrantedOf : Answer → Bool
-notGrantedOf Answer.Taken = false
-notGrantedOf Answer.OutOfPhase = false
-notGrantedOf Answer.NotAnEvent = false
-notGrantedOf Answer.NoService = false
-notGrantedOf Answer.Spent = false
-notGrantedOf Answer.NotOpen = false
-notGrantedOf Answer.NotGranted = true
-notGrantedOf Answer.BadElement = false
-notGrantedOf Answer.AskedRequired = false
-notGrantedOf Answer.OutOfRange = false
-notGrantedOf Answer.Unsound = false
-
--- FACILITY that says one thing of service 3
-unfoldable pub aboutThreeOf : Said → Sent
-aboutThreeOf s = sayingOf Kind.Facility Cause.Absent (record { one = Said.Nothing; two = Said.Nothing; three = s }) false
-
--- "16 sends the asker FACILITY with rejectedByNetwork"
-abbrev pub toAskerOf : Answer → Sent
-toAskerOf verdict = onlyIfOf (notGrantedOf verdict) (aboutThreeOf Said.ByNetwork)
-
--- "Request, accept or reject for service 3, passed to the other user when taken"
-abbrev pub toOtherOf : Answer → What → Sent
-toOtherOf verdict what = onlyIfOf (takenOf verdict) (aboutThreeOf (facilitySaidOf what))

@@ -1,20 +1,12 @@
 // Service 3 asked for while connected: who may ask, who has asked, and what is answered.
 ghost use mathlib.Core.Path.{_≡_};
-ghost use Rattle.asking.specs.Asking.{nobodyAsks, asksOf, withAskOf, mayAskOf, toRequestOf, toAnswerOf, verdictOf, facilitySaidOf, facilityAskingOf, facilityThreeOf, notGrantedOf, aboutThreeOf, toAskerOf, toOtherOf};
-use causes::Cause;
+ghost use Rattle.asking.specs.Asking.{nobodyAsks, asksOf, withAskOf, mayAskOf, toRequestOf, toAnswerOf, verdictOf, facilityAskingOf, facilityThreeOf};
 use numbers::Answer;
-use numbers::taken;
 use rights::Rights;
 use rights::Service;
 use rights::has;
-use sent::Kind;
-use sent::Sent;
-use sent::only_if;
-use sent::saying;
 use sides::Side;
 use sides::peer;
-use standing::Facilities;
-use standing::Said;
 use standing::Standing;
 
 // Who has a FACILITY request for service 3 open.
@@ -103,17 +95,6 @@ pub fn verdict(r: Rights, a: Asking, force: bool, side: Side, what: What) -> Ans
     }
 }
 
-fn facility_said(what: What) -> Said
-    ensures { λ r. ⌜ r ≡ facilitySaidOf what ⌝ }
-{
-    match what {
-        What::Preferred => Said::Preferred,
-        What::Accept => Said::Accepted,
-        What::Reject => Said::ByUser,
-        What::Required => Said::Required,
-    }
-}
-
 // Accept closes both requests, reject the one that it answers.
 pub fn facility_asking(a: Asking, side: Side, what: What) -> Asking
     ensures { λ r. ⌜ r ≡ facilityAskingOf a side what ⌝ }
@@ -135,52 +116,4 @@ pub fn facility_three(s: Standing, what: What) -> Standing
         What::Reject => s,
         What::Required => s,
     }
-}
-
-fn not_granted(a: Answer) -> bool
-    ensures { λ r. ⌜ r ≡ notGrantedOf a ⌝ }
-{
-    match a {
-        Answer::Taken => false,
-        Answer::OutOfPhase => false,
-        Answer::NotAnEvent => false,
-        Answer::NoService => false,
-        Answer::Spent => false,
-        Answer::NotOpen => false,
-        Answer::NotGranted => true,
-        Answer::BadElement => false,
-        Answer::AskedRequired => false,
-        Answer::OutOfRange => false,
-        Answer::Unsound => false,
-    }
-}
-
-// FACILITY about service 3.
-fn about_three(s: Said) -> Sent
-    ensures { λ r. ⌜ r ≡ aboutThreeOf s ⌝ }
-{
-    saying(
-        Kind::Facility,
-        Cause::Absent,
-        Facilities {
-            one: Said::Nothing,
-            two: Said::Nothing,
-            three: s,
-        },
-        false,
-    )
-}
-
-// The asker is told of 16.
-pub fn to_asker(verdict: Answer) -> Sent
-    ensures { λ s. ⌜ s ≡ toAskerOf verdict ⌝ }
-{
-    only_if(not_granted(verdict), about_three(Said::ByNetwork))
-}
-
-// What is taken goes on to the other user.
-pub fn to_other(verdict: Answer, what: What) -> Sent
-    ensures { λ s. ⌜ s ≡ toOtherOf verdict what ⌝ }
-{
-    only_if(taken(verdict), about_three(facility_said(what)))
 }

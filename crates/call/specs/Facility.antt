@@ -7,7 +7,8 @@ use Rattle.sides.specs.declared.Side.{Side}
 use Rattle.call.specs.declared.Call.{Call}
 use Rattle.call.specs.declared.reply.Reply.{Reply}
 use Rattle.standing.specs.Standing.{inForceOf}
-use Rattle.asking.specs.Asking.{verdictOf, facilityAskingOf, facilityThreeOf, toAskerOf, toOtherOf}
+use Rattle.asking.specs.Asking.{verdictOf, facilityAskingOf, facilityThreeOf}
+use Rattle.telling.specs.Telling.{toAskerOf, toOtherOf}
 use Rattle.numbers.specs.Answer.{takenOf}
 use Rattle.phases.specs.Phase.{activeOf}
 use Rattle.meters.specs.Meters.{facilityMetersOf}

@@ -9,7 +9,7 @@ use Rattle.phases.specs.Phase.{liveOf}
 use Rattle.serving.specs.Serving.{servesThreeOf}
 use Rattle.call.specs.Information.{metersOf}
 use Rattle.call.specs.Reply.{barOf, heardOf}
-use Rattle.meters.specs.Meters.{refillsOf, readyOf}
+use Rattle.ticking.specs.Ticking.{refillsOf, readyOf}
 
 -- service 3 in force in Active
 unfoldable pub runsOf : Call → Bool

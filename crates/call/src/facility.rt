@@ -9,8 +9,6 @@ use crate::reply::reply_to;
 use asking::What;
 use asking::facility_asking;
 use asking::facility_three;
-use asking::to_asker;
-use asking::to_other;
 use asking::verdict;
 use carriage::Note;
 use meters::facility_meters;
@@ -20,6 +18,8 @@ use phases::is_active;
 use sides::Side;
 use standing::Standings;
 use standing::in_force;
+use telling::to_asker;
+use telling::to_other;
 
 fn facility_verdict(c: Call, side: Side, what: What) -> Answer
     ensures { λ r. ⌜ r ≡ facilityVerdictOf c side what ⌝ }

@@ -7,12 +7,12 @@ use crate::reply::Reply;
 use crate::reply::barred;
 use crate::reply::heard;
 use carriage::Note;
-use meters::ready;
-use meters::refills;
 use numbers::Answer;
 use phases::is_live;
 use serving::serves_three;
 use standing::in_force;
+use ticking::ready;
+use ticking::refills;
 
 fn passes_tick(c: Call) -> Reply
     ensures { λ r. ⌜ r ≡ passesTickOf c ⌝ }

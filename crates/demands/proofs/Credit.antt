@@ -42,7 +42,8 @@ use Rattle.asking.specs.Asking.{asksOf, mayAskOf, toRequestOf, toAnswerOf}
 use Rattle.phases.specs.Phase.{requestedOf, connectableOf, talkingOf, activeOf, liveOf}
 use Rattle.serving.specs.Serving.{servesTwoOf, servesThreeOf, passageAnswerOf}
 use Rattle.sides.specs.Side.{peerOf}
-use Rattle.meters.specs.Meters.{grantsOf, inForceAfterOf, emptyMeters, tickedMetersOf, refillsOf}
+use Rattle.meters.specs.Meters.{grantsOf, inForceAfterOf, emptyMeters}
+use Rattle.ticking.specs.Ticking.{tickedMetersOf, refillsOf}
 use Rattle.call.specs.Answering.{answeredCallOf, goesOnOf, clearsOf, outcomeOf, answeredOf, alertingOf, connectOf}
 use Rattle.call.specs.Disconnect.{closedCallOf, passedOnOf, disconnectOf, endsOf, releaseCompleteOf}
 use Rattle.call.specs.Facility.{facilityVerdictOf, facilityCallOf, passesFacilityOf, facilityOf}

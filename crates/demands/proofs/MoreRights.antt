@@ -38,7 +38,8 @@ use Rattle.standing.specs.Standing.{inForceOf}
 use Rattle.requests.specs.Requests.{askedStandingOf, impliedOf, firstStandingOf, standingsOf, lackingOf, lacksOf, setupPhaseOf, toCallerOf, toCalledOf, setupCarriesOf}
 use Rattle.fates.specs.Fates.{decidedOf, settledOf, settlesOf, failureOf, failedOf, alertingFatesOf, connectFatesOf}
 use Rattle.numbers.specs.Answer.{takenOf}
-use Rattle.asking.specs.Asking.{nobodyAsks, asksOf, mayAskOf, toRequestOf, toAnswerOf, facilityAnswerOf, facilityThreeOf, aboutThreeOf}
+use Rattle.asking.specs.Asking.{nobodyAsks, asksOf, mayAskOf, toRequestOf, toAnswerOf, facilityAnswerOf, facilityThreeOf}
+use Rattle.telling.specs.Telling.{aboutThreeOf}
 use Rattle.sent.specs.Message.{sayingOf, bareOf, congestionOf, informsOf, onlyIfOf}
 use Rattle.phases.specs.Phase.{freshOf, requestedOf, connectableOf, talkingOf, activeOf, upOf, liveOf}
 use Rattle.serving.specs.Serving.{lateOf, servesTwoOf, servesThreeOf, passesOf}
@@ -46,7 +47,8 @@ use Rattle.sides.specs.Side.{peerOf}
 use Rattle.call.specs.Answering.{answeredCallOf, goesOnOf, clearsOf, outcomeOf, answeredOf, alertingOf, connectOf}
 use Rattle.call.specs.Disconnect.{closedCallOf, passedOnOf, disconnectOf, endsOf, releaseCompleteOf}
 use Rattle.call.specs.Facility.{facilityVerdictOf, facilityCallOf, passesFacilityOf, facilityOf}
-use Rattle.meters.specs.Meters.{facilityMetersOf, meterOf, withMeterOf, emptyMeters, tickedMetersOf, refillsOf, readyOf}
+use Rattle.meters.specs.Meters.{facilityMetersOf, meterOf, withMeterOf, emptyMeters}
+use Rattle.ticking.specs.Ticking.{tickedMetersOf, refillsOf, readyOf}
 use Rattle.call.specs.Information.{metersOf, informationPassageOf, carriedOf, withElementOf, informationOf}
 use Rattle.call.specs.Reply.{barOf, refusedOf, heardOf, replyOf}
 use Rattle.call.specs.Setup.{filledOf, proceedsOf, setupOf}

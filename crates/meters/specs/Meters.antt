@@ -1,17 +1,14 @@
 -- The two meters of a call, and what the events make of them.
-use mathlib.Core.Bool.{Bool, cond, _&&_}
+use mathlib.Core.Bool.{Bool, _&&_}
 use Rattle.rights.specs.declared.Rights.{Rights}
 use Rattle.meters.specs.declared.Meters.{Meters}
-use Rattle.meter.specs.Meter.{emptyOf, grantedOf, tickedOf, afterOf, meterFitsOf}
+use Rattle.meter.specs.Meter.{emptyOf, grantedOf, afterOf, meterFitsOf}
 use Rattle.rights.specs.Rights.{rightsFitOf, referenceFitsOf}
 use Prim.Native.Nat.{ℕ}
 use Rattle.meter.specs.declared.Meter.{Meter}
 use Rattle.meter.specs.declared.Passage.{Passage}
-use Rattle.sent.specs.declared.Level.{Level}
 use Rattle.sides.specs.declared.Side.{Side}
-use Rattle.sent.specs.Message.{congestionOf, onlyIfOf}
 use Rattle.fates.specs.declared.Fate.{Fate}
-use Rattle.sent.specs.declared.Sent.{Sent}
 use Rattle.asking.specs.declared.What.{What}
 
 unfoldable pub emptyMeters : Meters
@@ -46,22 +43,6 @@ facilityMetersOf m burst What.Preferred = m
 facilityMetersOf m burst What.Accept = grantsOf m burst
 facilityMetersOf m burst What.Reject = m
 facilityMetersOf m burst What.Required = m
-
--- both directions of a call
-unfoldable pub tickedMetersOf : Meters → Rights → Meters
-tickedMetersOf m r =
-    record {
-      calling = tickedOf (m .calling) (r .burst) (r .refill);
-      called = tickedOf (m .called) (r .burst) (r .refill);
-    }
-
--- "without service 3 in Active it does nothing"
-unfoldable pub refillsOf : Meters → Rights → Bool → Meters
-refillsOf m r runs = cond runs (tickedMetersOf m r) m
-
--- "A tick with the mark set clears it and sends ready"
-unfoldable pub readyOf : Meter → Bool → Sent
-readyOf m runs = onlyIfOf (runs && m .mark) (congestionOf Level.Ready)
 
 -- "a live record or meter with a field out of range, credit over X or count over 2"
 abbrev pub rangesFit : ℕ → Rights → Meters → Bool

@@ -1,6 +1,6 @@
 // The two meters of a call, and what the events make of them.
 ghost use mathlib.Core.Path.{_≡_};
-ghost use Rattle.meters.specs.Meters.{emptyMeters, meterOf, withMeterOf, spentOf, grantsOf, inForceAfterOf, facilityMetersOf, tickedMetersOf, refillsOf, readyOf, rangesFit};
+ghost use Rattle.meters.specs.Meters.{emptyMeters, meterOf, withMeterOf, spentOf, grantsOf, inForceAfterOf, facilityMetersOf, rangesFit};
 use asking::What;
 use fates::Fate;
 use meter::Meter;
@@ -9,14 +9,9 @@ use meter::after;
 use meter::empty;
 use meter::granted;
 use meter::meter_fits;
-use meter::ticked;
 use rights::Rights;
 use rights::reference_fits;
 use rights::rights_fit;
-use sent::Level;
-use sent::Sent;
-use sent::congestion;
-use sent::only_if;
 use sides::Side;
 
 // The meter of what each side sends.
@@ -101,31 +96,6 @@ pub fn facility_meters(m: Meters, burst: u16, what: What) -> Meters
         What::Reject => m,
         What::Required => m,
     }
-}
-
-fn ticked_meters(m: Meters, r: Rights) -> Meters
-    ensures { λ n. ⌜ n ≡ tickedMetersOf m r ⌝ }
-{
-    let calling = m.calling;
-    let called = m.called;
-    Meters {
-        calling: ticked(calling, r.burst, r.refill),
-        called: ticked(called, r.burst, r.refill),
-    }
-}
-
-// `runs` says whether service 3 is in force in Active: otherwise a tick does nothing.
-pub fn refills(m: Meters, r: Rights, runs: bool) -> Meters
-    ensures { λ n. ⌜ n ≡ refillsOf m r runs ⌝ }
-{
-    if runs { ticked_meters(m, r) } else { m }
-}
-
-// The sender of a direction whose mark is set is told that it is ready.
-pub fn ready(m: Meter, runs: bool) -> Sent
-    ensures { λ s. ⌜ s ≡ readyOf m runs ⌝ }
-{
-    only_if(runs & m.mark, congestion(Level::Ready))
 }
 
 // Whether what a live record holds is in range, both meters included.

@@ -39,10 +39,10 @@ use Rattle.call.specs.Reply.{barOf, refusedOf, heardOf, replyOf}
 use Rattle.call.specs.Setup.{proceedsOf, setupOf}
 use Rattle.call.specs.Answering.{goesOnOf, clearsOf, outcomeOf, answeredOf, alertingOf, connectOf}
 use Rattle.call.specs.Information.{carriedOf, withElementOf, informationOf}
-use Rattle.asking.specs.Asking.{aboutThreeOf}
+use Rattle.telling.specs.Telling.{aboutThreeOf}
 use Rattle.call.specs.Facility.{passesFacilityOf, facilityOf}
 use Rattle.call.specs.Disconnect.{passedOnOf, disconnectOf, endsOf, releaseCompleteOf}
-use Rattle.meters.specs.Meters.{readyOf}
+use Rattle.ticking.specs.Ticking.{readyOf}
 use Rattle.call.specs.Tick.{passesTickOf, tickOf}
 use Rattle.call.specs.Step.{notAnEventOf, stepOf}
 use Rattle.choosing.specs.declared.choice.Choice.{Choice}

@@ -13,7 +13,8 @@ use Rattle.standing.specs.Standing.{remainsOf, noServices}
 use Rattle.requests.specs.Requests.{firstStandingOf, standingsOf, lacksOf, passedRequestsOf, networkRefusalsOf, setupPhaseOf, toCallerOf, toCalledOf, setupCarriesOf}
 use Rattle.asking.specs.Asking.{nobodyAsks}
 use Rattle.sent.specs.Message.{sayingOf, onlyIfOf}
-use Rattle.meters.specs.Meters.{emptyMeters, refillsOf, readyOf}
+use Rattle.meters.specs.Meters.{emptyMeters}
+use Rattle.ticking.specs.Ticking.{refillsOf, readyOf}
 use Rattle.call.specs.Sound.{freshCall, fieldsFitOf, soundOf}
 use Rattle.call.specs.Reply.{barOf, refusedOf, heardOf}
 use Rattle.call.specs.Setup.{filledOf, proceedsOf, setupOf}

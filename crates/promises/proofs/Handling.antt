@@ -37,9 +37,10 @@ use Rattle.sent.specs.Message.{sayingOf, bareOf, congestionOf, informsOf, onlyI
 use Rattle.serving.specs.Serving.{passageAnswerOf, passesOf, marksOf}
 use Rattle.call.specs.Answering.{goesOnOf, clearsOf, answeredCallOf, outcomeOf, answeredOf, alertingOf, connectOf}
 use Rattle.call.specs.Disconnect.{closedCallOf, passedOnOf, disconnectOf, endsOf, releaseCompleteOf}
-use Rattle.asking.specs.Asking.{aboutThreeOf}
+use Rattle.telling.specs.Telling.{aboutThreeOf}
 use Rattle.call.specs.Facility.{passesFacilityOf, facilityOf}
-use Rattle.meters.specs.Meters.{meterOf, readyOf}
+use Rattle.meters.specs.Meters.{meterOf}
+use Rattle.ticking.specs.Ticking.{readyOf}
 use Rattle.call.specs.Information.{informationPassageOf, carriedOf, withElementOf, informationOf}
 use Rattle.call.specs.Reply.{refusedOf, replyOf}
 use Rattle.call.specs.Setup.{filledOf, proceedsOf, setupOf}

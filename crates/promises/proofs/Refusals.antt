@@ -25,7 +25,8 @@ use Rattle.carriage.specs.Element.{wholeOf}
 use Rattle.fates.specs.Fates.{failedOf}
 use Rattle.standing.specs.Standing.{silence}
 use Rattle.numbers.specs.Answer.{numberOf, takenOf}
-use Rattle.asking.specs.Asking.{toRequestOf, toAnswerOf, notGrantedOf, aboutThreeOf}
+use Rattle.asking.specs.Asking.{toRequestOf, toAnswerOf}
+use Rattle.telling.specs.Telling.{notGrantedOf, aboutThreeOf}
 use Rattle.sent.specs.Message.{sayingOf, congestionOf, onlyIfOf}
 use Rattle.serving.specs.Serving.{passageAnswerOf, passesOf, marksOf}
 use Rattle.call.specs.Answering.{goesOnOf, clearsOf, outcomeOf, answeredOf, alertingOf, connectOf}

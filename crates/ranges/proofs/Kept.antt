@@ -26,7 +26,8 @@ use Rattle.meter.specs.Meter.{emptyOf, grantedOf, refilledOf, tickedOf, counted
 use Rattle.carriage.specs.Element.{wholeOf}
 use Rattle.fates.specs.Fates.{failedOf}
 use Rattle.numbers.specs.Answer.{takenOf}
-use Rattle.meters.specs.Meters.{grantsOf, inForceAfterOf, facilityMetersOf, meterOf, withMeterOf, emptyMeters, tickedMetersOf, refillsOf}
+use Rattle.meters.specs.Meters.{grantsOf, inForceAfterOf, facilityMetersOf, meterOf, withMeterOf, emptyMeters}
+use Rattle.ticking.specs.Ticking.{tickedMetersOf, refillsOf}
 use Rattle.call.specs.Answering.{answeredCallOf, goesOnOf, clearsOf, outcomeOf, answeredOf, alertingOf, connectOf}
 use Rattle.call.specs.Disconnect.{closedCallOf, passedOnOf, disconnectOf, endsOf, releaseCompleteOf}
 use Rattle.call.specs.Facility.{facilityCallOf, passesFacilityOf, facilityOf}

@@ -52,14 +52,14 @@ use Rattle.sent.specs.Message.{sayingOf, bareOf, congestionOf, informsOf, onlyI
 use Rattle.serving.specs.Serving.{passesOf, marksOf}
 use Rattle.call.specs.Answering.{goesOnOf, clearsOf, outcomeOf, answeredOf, alertingOf, connectOf}
 use Rattle.call.specs.Disconnect.{passedOnOf, disconnectOf, endsOf, releaseCompleteOf}
-use Rattle.asking.specs.Asking.{aboutThreeOf}
+use Rattle.telling.specs.Telling.{aboutThreeOf}
 use Rattle.call.specs.Facility.{passesFacilityOf, facilityOf}
 use Rattle.call.specs.Information.{informationPassageOf, carriedOf, withElementOf, informationOf}
 use Rattle.call.specs.Reply.{refusedOf, replyOf}
 use Rattle.call.specs.Setup.{proceedsOf, setupOf}
 use Rattle.call.specs.Sound.{soundOf}
 use Rattle.call.specs.Step.{notAnEventOf, stepOf}
-use Rattle.meters.specs.Meters.{readyOf}
+use Rattle.ticking.specs.Ticking.{readyOf}
 use Rattle.call.specs.Tick.{passesTickOf, tickOf}
 use Rattle.ranges.specs.Ranges.{Live}
 use Rattle.promises.specs.Numbers.{WellFormed}

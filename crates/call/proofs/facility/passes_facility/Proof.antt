@@ -4,8 +4,8 @@ use Rattle.call.proofs.facility.passes_facility.Statement.{statement}
 use Rattle.call.proofs.facility.passes_facility.Tie as tie
 use Rattle.call.proofs.facility.passes_facility.Reads as reads
 use Rattle.call.proofs.facility.passes_facility.Lts as lts
-use Rattle.asking.proofs.to_asker.Reads as to-asker-reads
-use Rattle.asking.proofs.to_other.Reads as to-other-reads
+use Rattle.telling.proofs.to_asker.Reads as to-asker-reads
+use Rattle.telling.proofs.to_other.Reads as to-other-reads
 use Rattle.call.proofs.facility.facility_call.Reads as facility-call-reads
 use Rattle.call.proofs.reply.reply_to.Reads as reply-to-reads
 use Rattle.numbers.proofs.taken.Reads as taken-reads

@@ -1,7 +1,7 @@
-use Rattle.meters.specs.Meters.{readyOf}
+use Rattle.ticking.specs.Ticking.{readyOf}
 use borrow.Author.Needs.{needs}
-use Rattle.meters.proofs.ready.Statement.{statement}
-use Rattle.meters.proofs.ready.Tie as tie
+use Rattle.ticking.proofs.ready.Statement.{statement}
+use Rattle.ticking.proofs.ready.Tie as tie
 
 congestion-requires : tie.Need-congestion-requires
 congestion-requires c κs = search needs

@@ -1,10 +1,10 @@
 use borrow.Author.Needs.{needs}
-use Rattle.asking.proofs.to_other.Statement.{statement}
-use Rattle.asking.proofs.to_other.Tie as tie
-use Rattle.asking.proofs.to_other.Reads as reads
-use Rattle.asking.proofs.to_other.Lts as lts
-use Rattle.asking.proofs.about_three.Reads as about-three-reads
-use Rattle.asking.proofs.facility_said.Reads as facility-said-reads
+use Rattle.telling.proofs.to_other.Statement.{statement}
+use Rattle.telling.proofs.to_other.Tie as tie
+use Rattle.telling.proofs.to_other.Reads as reads
+use Rattle.telling.proofs.to_other.Lts as lts
+use Rattle.telling.proofs.about_three.Reads as about-three-reads
+use Rattle.telling.proofs.facility_said.Reads as facility-said-reads
 use Rattle.numbers.proofs.taken.Reads as taken-reads
 use Rattle.sent.proofs.only_if.Reads as only-if-reads
 

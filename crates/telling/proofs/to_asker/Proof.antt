@@ -1,10 +1,10 @@
 use borrow.Author.Needs.{needs}
-use Rattle.asking.proofs.to_asker.Statement.{statement}
-use Rattle.asking.proofs.to_asker.Tie as tie
-use Rattle.asking.proofs.to_asker.Reads as reads
-use Rattle.asking.proofs.to_asker.Lts as lts
-use Rattle.asking.proofs.about_three.Reads as about-three-reads
-use Rattle.asking.proofs.not_granted.Reads as not-granted-reads
+use Rattle.telling.proofs.to_asker.Statement.{statement}
+use Rattle.telling.proofs.to_asker.Tie as tie
+use Rattle.telling.proofs.to_asker.Reads as reads
+use Rattle.telling.proofs.to_asker.Lts as lts
+use Rattle.telling.proofs.about_three.Reads as about-three-reads
+use Rattle.telling.proofs.not_granted.Reads as not-granted-reads
 use Rattle.sent.proofs.only_if.Reads as only-if-reads
 
 not-granted-requires : tie.Need-not-granted-requires

@@ -1,7 +1,7 @@
-use Rattle.meters.specs.Meters.{refillsOf}
+use Rattle.ticking.specs.Ticking.{refillsOf}
 use borrow.Author.Needs.{needs}
-use Rattle.meters.proofs.refills.Statement.{statement}
-use Rattle.meters.proofs.refills.Tie as tie
+use Rattle.ticking.proofs.refills.Statement.{statement}
+use Rattle.ticking.proofs.refills.Tie as tie
 
 ticked-meters-requires : tie.Need-ticked-meters-requires
 ticked-meters-requires c κs = search needs

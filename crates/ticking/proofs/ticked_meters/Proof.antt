@@ -1,7 +1,7 @@
-use Rattle.meters.specs.Meters.{tickedMetersOf}
+use Rattle.ticking.specs.Ticking.{tickedMetersOf}
 use borrow.Author.Needs.{needs}
-use Rattle.meters.proofs.ticked_meters.Statement.{statement}
-use Rattle.meters.proofs.ticked_meters.Tie as tie
+use Rattle.ticking.proofs.ticked_meters.Statement.{statement}
+use Rattle.ticking.proofs.ticked_meters.Tie as tie
 
 ticked-requires : tie.Need-ticked-requires
 ticked-requires c κs = search needs

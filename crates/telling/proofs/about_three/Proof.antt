@@ -1,7 +1,7 @@
-use Rattle.asking.specs.Asking.{aboutThreeOf}
+use Rattle.telling.specs.Telling.{aboutThreeOf}
 use borrow.Author.Needs.{needs}
-use Rattle.asking.proofs.about_three.Statement.{statement}
-use Rattle.asking.proofs.about_three.Tie as tie
+use Rattle.telling.proofs.about_three.Statement.{statement}
+use Rattle.telling.proofs.about_three.Tie as tie
 
 saying-requires : tie.Need-saying-requires
 saying-requires c κs = search needs

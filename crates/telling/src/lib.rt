@@ -1,0 +1,72 @@
+// FACILITY about service 3: what it says, and what the asker and the other user are told.
+ghost use mathlib.Core.Path.{_≡_};
+ghost use Rattle.telling.specs.Telling.{facilitySaidOf, notGrantedOf, aboutThreeOf, toAskerOf, toOtherOf};
+use asking::What;
+use causes::Cause;
+use numbers::Answer;
+use numbers::taken;
+use sent::Kind;
+use sent::Sent;
+use sent::only_if;
+use sent::saying;
+use standing::Facilities;
+use standing::Said;
+
+fn facility_said(what: What) -> Said
+    ensures { λ r. ⌜ r ≡ facilitySaidOf what ⌝ }
+{
+    match what {
+        What::Preferred => Said::Preferred,
+        What::Accept => Said::Accepted,
+        What::Reject => Said::ByUser,
+        What::Required => Said::Required,
+    }
+}
+
+fn not_granted(a: Answer) -> bool
+    ensures { λ r. ⌜ r ≡ notGrantedOf a ⌝ }
+{
+    match a {
+        Answer::Taken => false,
+        Answer::OutOfPhase => false,
+        Answer::NotAnEvent => false,
+        Answer::NoService => false,
+        Answer::Spent => false,
+        Answer::NotOpen => false,
+        Answer::NotGranted => true,
+        Answer::BadElement => false,
+        Answer::AskedRequired => false,
+        Answer::OutOfRange => false,
+        Answer::Unsound => false,
+    }
+}
+
+// FACILITY about service 3.
+fn about_three(s: Said) -> Sent
+    ensures { λ r. ⌜ r ≡ aboutThreeOf s ⌝ }
+{
+    saying(
+        Kind::Facility,
+        Cause::Absent,
+        Facilities {
+            one: Said::Nothing,
+            two: Said::Nothing,
+            three: s,
+        },
+        false,
+    )
+}
+
+// The asker is told of 16.
+pub fn to_asker(verdict: Answer) -> Sent
+    ensures { λ s. ⌜ s ≡ toAskerOf verdict ⌝ }
+{
+    only_if(not_granted(verdict), about_three(Said::ByNetwork))
+}
+
+// What is taken goes on to the other user.
+pub fn to_other(verdict: Answer, what: What) -> Sent
+    ensures { λ s. ⌜ s ≡ toOtherOf verdict what ⌝ }
+{
+    only_if(taken(verdict), about_three(facility_said(what)))
+}

@@ -1,0 +1,36 @@
+// The two meters of a call at a tick, and who is then told that it is ready.
+ghost use mathlib.Core.Path.{_≡_};
+ghost use Rattle.ticking.specs.Ticking.{tickedMetersOf, refillsOf, readyOf};
+use meter::Meter;
+use meter::ticked;
+use meters::Meters;
+use rights::Rights;
+use sent::Level;
+use sent::Sent;
+use sent::congestion;
+use sent::only_if;
+
+fn ticked_meters(m: Meters, r: Rights) -> Meters
+    ensures { λ n. ⌜ n ≡ tickedMetersOf m r ⌝ }
+{
+    let calling = m.calling;
+    let called = m.called;
+    Meters {
+        calling: ticked(calling, r.burst, r.refill),
+        called: ticked(called, r.burst, r.refill),
+    }
+}
+
+// `runs` says whether service 3 is in force in Active: otherwise a tick does nothing.
+pub fn refills(m: Meters, r: Rights, runs: bool) -> Meters
+    ensures { λ n. ⌜ n ≡ refillsOf m r runs ⌝ }
+{
+    if runs { ticked_meters(m, r) } else { m }
+}
+
+// The sender of a direction whose mark is set is told that it is ready.
+pub fn ready(m: Meter, runs: bool) -> Sent
+    ensures { λ s. ⌜ s ≡ readyOf m runs ⌝ }
+{
+    only_if(runs & m.mark, congestion(Level::Ready))
+}
