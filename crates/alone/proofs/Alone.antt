@@ -13,12 +13,13 @@ use Rattle.events.specs.declared.Event.{Event}
 use Rattle.call.specs.Sound.{freshCall}
 use Rattle.call.specs.Step.{stepOf}
 use Rattle.choosing.specs.declared.choice.Choice.{Choice}
-use Rattle.choosing.specs.declared.choice.Verdict.{Verdict}
+use Rattle.verdicts.specs.declared.Verdict.{Verdict}
 use Rattle.settling.specs.declared.settle.Outcome.{Outcome}
 use Rattle.looking.specs.Look.{liveAs}
 use Rattle.table.specs.Table.{tableSound}
 use Rattle.chosen.specs.Chosen.{chosenOf}
-use Rattle.choosing.specs.Choice.{verdictNumber, referenceOf, opensOf, rangedOf}
+use Rattle.choosing.specs.Choice.{referenceOf, opensOf, rangedOf}
+use Rattle.verdicts.specs.Verdict.{verdictNumber}
 use Rattle.settling.specs.Settle.{subjectOf, outcomeOf, refusalOf, settledOf}
 use Rattle.exchange.specs.Step.{outcomeAt, tableAt, stepOutcome, stepTable}
 use Rattle.exchange.specs.Promises.{heldCall}

@@ -7,12 +7,14 @@ use mathlib.Core.Path.{_≡_, refl}
 use lib.ListN.{length, getD}
 use Rattle.phases.specs.declared.Phase.{Phase}
 use Rattle.call.specs.declared.Call.{Call}
-use Rattle.meter.specs.Meter.{emptyOf, meterFitsOf, passageOf}
+use Rattle.meter.specs.Meter.{emptyOf, meterFitsOf}
+use Rattle.passage.specs.Passage.{passageOf}
 use Rattle.carriage.specs.Element.{wellFormedOf, seenOf, goesOutOf}
 use Rattle.rights.specs.Rights.{rightsFitOf, referenceFitsOf, noRights}
 use Rattle.standing.specs.Standing.{remainsOf, noServices}
 use Rattle.requests.specs.Requests.{firstStandingOf, standingsOf, lacksOf, setupPhaseOf, setupCarriesOf}
-use Rattle.fates.specs.Fates.{failedOf, settlesOf, alertingFatesOf}
+use Rattle.fates.specs.Fates.{alertingFatesOf}
+use Rattle.consequences.specs.Consequences.{failedOf, settlesOf}
 use Rattle.asking.specs.Asking.{nobodyAsks}
 use Rattle.meters.specs.Meters.{emptyMeters}
 use Rattle.ticking.specs.Ticking.{refillsOf}

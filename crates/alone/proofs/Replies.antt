@@ -14,7 +14,7 @@ use Rattle.call.specs.declared.reply.Reply.{Reply}
 use Rattle.call.specs.Sound.{freshCall}
 use Rattle.call.specs.Step.{stepOf}
 use Rattle.choosing.specs.declared.choice.Choice.{Choice}
-use Rattle.choosing.specs.declared.choice.Verdict.{Verdict}
+use Rattle.verdicts.specs.declared.Verdict.{Verdict}
 use Rattle.choosing.specs.declared.choice.Wanted.{Wanted}
 use Rattle.looking.specs.declared.Found.{Found}
 use Rattle.choosing.specs.Choice.{wantedOf, ownOr, isNew, referenceOf, opensOf, rangedOf, chooseOf}

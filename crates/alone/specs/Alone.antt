@@ -15,7 +15,8 @@ use Rattle.call.specs.declared.Call.{Call}
 use Rattle.events.specs.declared.Event.{Event}
 use Rattle.call.specs.Sound.{freshCall}
 use Rattle.settling.specs.declared.settle.Outcome.{Outcome}
-use Rattle.choosing.specs.Choice.{verdictNumber, referenceOf, opensOf}
+use Rattle.choosing.specs.Choice.{referenceOf, opensOf}
+use Rattle.verdicts.specs.Verdict.{verdictNumber}
 use Rattle.exchange.specs.Step.{stepOutcome, stepTable}
 
 -- an event as it is offered at a table

@@ -16,7 +16,8 @@ use Rattle.call.specs.declared.reply.Reply.{Reply}
 use Rattle.call.specs.Sound.{freshCall}
 use Rattle.call.specs.Step.{stepOf}
 use Rattle.settling.specs.declared.settle.Outcome.{Outcome}
-use Rattle.choosing.specs.Choice.{verdictNumber, opensOf}
+use Rattle.choosing.specs.Choice.{opensOf}
+use Rattle.verdicts.specs.Verdict.{verdictNumber}
 use Rattle.exchange.specs.Step.{stepOutcome, stepTable}
 use Rattle.ranges.specs.Ranges.{ReferenceInRange, RightsInRange}
 use Rattle.exchange.specs.Promises.{Faulty, Held, Full, Names}

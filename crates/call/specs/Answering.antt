@@ -13,7 +13,8 @@ use Rattle.phases.specs.declared.Phase.{Phase}
 use Rattle.call.specs.declared.Call.{Call}
 use Rattle.call.specs.declared.reply.Reply.{Reply}
 use Rattle.standing.specs.Standing.{inForceOf}
-use Rattle.fates.specs.Fates.{failedOf, settlesOf, tellsOf, declinesOf, alertingFatesOf, connectFatesOf}
+use Rattle.fates.specs.Fates.{alertingFatesOf, connectFatesOf}
+use Rattle.consequences.specs.Consequences.{failedOf, settlesOf, tellsOf, declinesOf}
 use Rattle.causes.specs.Cause.{cleared}
 use Rattle.carriage.specs.Element.{seenOf, notedOf, goesOutOf}
 use Rattle.sent.specs.Message.{sayingOf, bareOf}

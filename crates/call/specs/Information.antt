@@ -13,7 +13,8 @@ use Rattle.call.specs.declared.reply.Reply.{Reply}
 use Rattle.standing.specs.Standing.{inForceOf}
 use Rattle.carriage.specs.Element.{seenOf, wholeOf, notedOf}
 use Rattle.phases.specs.Phase.{talkingOf}
-use Rattle.serving.specs.Serving.{servedOf, passageAnswerOf, toSenderOf, toReceiverOf}
+use Rattle.serving.specs.Serving.{servedOf}
+use Rattle.passing.specs.Passing.{passageAnswerOf, toSenderOf, toReceiverOf}
 use Rattle.call.specs.Reply.{barOf, refusedOf, heardOf, replyOf}
 use Rattle.meters.specs.Meters.{meterOf, spentOf}
 

@@ -17,11 +17,11 @@ use meters::Meters;
 use meters::meter_of;
 use meters::spent;
 use numbers::Answer;
+use passing::passage_answer;
+use passing::to_receiver;
+use passing::to_sender;
 use phases::is_talking;
-use serving::passage_answer;
 use serving::served;
-use serving::to_receiver;
-use serving::to_sender;
 use sides::Side;
 use standing::in_force;
 

@@ -6,12 +6,14 @@ use mathlib.Core.Path.{_≡_, refl}
 use native.Mathlib.Omega.{arith}
 use Rattle.rights.specs.declared.Rights.{Rights}
 use Rattle.rights.specs.declared.Service.{Service}
-use Rattle.meter.specs.Meter.{emptyOf, meterFitsOf, grantedOf, countedOf, spentOf, markedOf, refilledOf, tickedOf, underThreeOf, passageOf}
+use Rattle.meter.specs.Meter.{emptyOf, meterFitsOf, grantedOf, refilledOf, tickedOf}
+use Rattle.passage.specs.Passage.{countedOf, spentOf, markedOf, underThreeOf, passageOf}
 use Rattle.carriage.specs.Element.{wellFormedOf, seenOf, goesOutOf}
 use Rattle.rights.specs.Rights.{rightsFitOf, referenceFitsOf, noRights}
 use Rattle.standing.specs.Standing.{remainsOf, silence, silentAnswers, noServices}
 use Rattle.requests.specs.Requests.{firstStandingOf, standingsOf, lacksOf, passedRequestsOf, networkRefusalsOf, setupPhaseOf, toCallerOf, toCalledOf, setupCarriesOf}
-use Rattle.fates.specs.Fates.{failedOf, settlesOf, tellsOf, declinesOf, alertingFatesOf, connectFatesOf}
+use Rattle.fates.specs.Fates.{alertingFatesOf, connectFatesOf}
+use Rattle.consequences.specs.Consequences.{failedOf, settlesOf, tellsOf, declinesOf}
 use Rattle.asking.specs.Asking.{nobodyAsks, toRequestOf, toAnswerOf}
 use Rattle.telling.specs.Telling.{aboutThreeOf}
 use Rattle.sent.specs.Message.{sayingOf, bareOf, congestionOf, informsOf, onlyIfOf}

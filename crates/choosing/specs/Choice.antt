@@ -3,19 +3,11 @@ use Prim.Native.Nat.{ℕ}
 use mathlib.Core.Bool.{Bool, true, false, cond, _&&_}
 use Rattle.rights.specs.Rights.{rightsFitOf, referenceFitsOf}
 use Rattle.numbers.specs.declared.Answer.{Answer}
-use Rattle.numbers.specs.Answer.{numberOf}
 use Rattle.events.specs.declared.Event.{Event}
-use Rattle.choosing.specs.declared.choice.Verdict.{Verdict}
+use Rattle.verdicts.specs.declared.Verdict.{Verdict}
 use Rattle.choosing.specs.declared.choice.Choice.{Choice}
 use Rattle.choosing.specs.declared.choice.Wanted.{Wanted}
 use Rattle.looking.specs.declared.Found.{Found}
-
--- the paper's number of each verdict
-abbrev pub verdictNumber : Verdict → ℕ
-verdictNumber (Verdict.Heard a) = numberOf a
-verdictNumber Verdict.NoPlace = 21
-verdictNumber Verdict.Held = 22
-verdictNumber Verdict.NoCall = 23
 
 -- what an event wants of the table: SETUP a place under its own reference, with "reference or rights out of range" or not; others that of a live call
 abbrev pub wantedOf : Event → Wanted

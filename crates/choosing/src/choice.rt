@@ -1,35 +1,16 @@
 // Which record an event goes to, or the number that the table gives.
 ghost use mathlib.Core.Path.{_≡_};
-ghost use Rattle.choosing.specs.Choice.{verdictNumber, wantedOf, referenceOf, opensOf, rangedOf, newPlaceOf, oldPlaceOf, chooseOf};
+ghost use Rattle.choosing.specs.Choice.{wantedOf, referenceOf, opensOf, rangedOf, newPlaceOf, oldPlaceOf, chooseOf};
 use events::Event;
 use looking::Found;
 use numbers::Answer;
-use numbers::number;
 use rights::reference_fits;
 use rights::rights_fit;
-
-// Heard: an answer that a call gives too. The others only a table gives.
-pub enum Verdict {
-    Heard(Answer),
-    NoPlace,
-    Held,
-    NoCall,
-}
+use verdicts::Verdict;
 
 pub enum Choice {
     At(usize),
     Refused(Verdict),
-}
-
-pub fn verdict_number(v: Verdict) -> u8
-    ensures { λ r. ⌜ r ≡ verdictNumber v ⌝ }
-{
-    match v {
-        Verdict::Heard(a) => number(a),
-        Verdict::NoPlace => 21,
-        Verdict::Held => 22,
-        Verdict::NoCall => 23,
-    }
 }
 
 // What an event wants of the table: SETUP a new place, under its own reference, with reference and rights in range or not; any

@@ -16,13 +16,16 @@ use Rattle.phases.specs.declared.Phase.{Phase}
 use Rattle.sides.specs.declared.Side.{Side}
 use Rattle.call.specs.declared.Call.{Call}
 use Rattle.meters.specs.declared.Meters.{Meters}
-use Rattle.meter.specs.Meter.{grantedOf, refilledOf, tickedOf, countedOf, spentOf, markedOf, underThreeOf, passageOf, afterOf}
+use Rattle.meter.specs.Meter.{grantedOf, refilledOf, tickedOf}
+use Rattle.passage.specs.Passage.{countedOf, spentOf, markedOf, underThreeOf, passageOf, afterOf}
 use Rattle.rights.specs.Rights.{hasOf}
 use Rattle.standing.specs.Standing.{inForceOf, remainsOf}
-use Rattle.fates.specs.Fates.{decidedOf, settledOf, failureOf}
+use Rattle.fates.specs.Fates.{decidedOf}
+use Rattle.consequences.specs.Consequences.{settledOf, failureOf}
 use Rattle.closing.specs.Closing.{closingStandingOf}
 use Rattle.asking.specs.Asking.{nobodyAsks}
-use Rattle.serving.specs.Serving.{lateOf, passesOf}
+use Rattle.serving.specs.Serving.{lateOf}
+use Rattle.passing.specs.Passing.{passesOf}
 use Rattle.meters.specs.Meters.{grantsOf, inForceAfterOf, meterOf}
 use Rattle.demands.specs.MoreRights.{NoLess}
 use Rattle.ranges.proofs.Decide.{never, by-cond}

@@ -31,16 +31,19 @@ use Rattle.call.specs.declared.Call.{Call}
 use Rattle.events.specs.declared.Event.{Event}
 use Rattle.meters.specs.declared.Meters.{Meters}
 use Rattle.call.specs.declared.reply.Reply.{Reply}
-use Rattle.meter.specs.Meter.{emptyOf, grantedOf, refilledOf, tickedOf, countedOf, spentOf, markedOf, underThreeOf, passageOf, afterOf}
+use Rattle.meter.specs.Meter.{emptyOf, grantedOf, refilledOf, tickedOf}
+use Rattle.passage.specs.Passage.{countedOf, spentOf, markedOf, underThreeOf, passageOf, afterOf}
 use Rattle.causes.specs.Cause.{firstOf}
 use Rattle.carriage.specs.Element.{wellFormedOf, seenOf, wholeOf}
 use Rattle.standing.specs.Standing.{inForceOf, noServices}
 use Rattle.requests.specs.Requests.{askedStandingOf, firstStandingOf, lackingOf, standingsOf, lacksOf, setupPhaseOf}
-use Rattle.fates.specs.Fates.{decidedOf, settledOf, settlesOf, failureOf, failedOf, alertingFatesOf, connectFatesOf}
+use Rattle.fates.specs.Fates.{decidedOf, alertingFatesOf, connectFatesOf}
+use Rattle.consequences.specs.Consequences.{settledOf, settlesOf, failureOf, failedOf}
 use Rattle.numbers.specs.Answer.{numberOf, takenOf}
 use Rattle.asking.specs.Asking.{asksOf, mayAskOf, toRequestOf, toAnswerOf}
 use Rattle.phases.specs.Phase.{requestedOf, connectableOf, talkingOf, activeOf, liveOf}
-use Rattle.serving.specs.Serving.{servesTwoOf, servesThreeOf, passageAnswerOf}
+use Rattle.serving.specs.Serving.{servesTwoOf, servesThreeOf}
+use Rattle.passing.specs.Passing.{passageAnswerOf}
 use Rattle.sides.specs.Side.{peerOf}
 use Rattle.meters.specs.Meters.{grantsOf, inForceAfterOf, emptyMeters}
 use Rattle.ticking.specs.Ticking.{tickedMetersOf, refillsOf}

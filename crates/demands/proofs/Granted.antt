@@ -29,7 +29,8 @@ use Rattle.carriage.specs.Element.{wholeOf, seenOf}
 use Rattle.rights.specs.Rights.{hasOf}
 use Rattle.standing.specs.Standing.{inForceOf, silentAnswers, noServices}
 use Rattle.requests.specs.Requests.{askedStandingOf, firstStandingOf, standingsOf}
-use Rattle.fates.specs.Fates.{decidedOf, settledOf, failedOf, alertingFatesOf, connectFatesOf}
+use Rattle.fates.specs.Fates.{decidedOf, alertingFatesOf, connectFatesOf}
+use Rattle.consequences.specs.Consequences.{settledOf, failedOf}
 use Rattle.closing.specs.Closing.{closingStandingOf, heardAnswersOf}
 use Rattle.numbers.specs.Answer.{numberOf, takenOf}
 use Rattle.asking.specs.Asking.{nobodyAsks, asksOf, mayAskOf, toRequestOf, toAnswerOf}

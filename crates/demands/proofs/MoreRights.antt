@@ -31,18 +31,21 @@ use Rattle.call.specs.declared.Call.{Call}
 use Rattle.events.specs.declared.Event.{Event}
 use Rattle.meters.specs.declared.Meters.{Meters}
 use Rattle.call.specs.declared.reply.Reply.{Reply}
-use Rattle.meter.specs.Meter.{tickedOf, afterOf}
+use Rattle.meter.specs.Meter.{tickedOf}
+use Rattle.passage.specs.Passage.{afterOf}
 use Rattle.carriage.specs.Element.{seenOf, wholeOf, goesOutOf}
 use Rattle.rights.specs.Rights.{hasOf, rightsFitOf, referenceFitsOf}
 use Rattle.standing.specs.Standing.{inForceOf}
 use Rattle.requests.specs.Requests.{askedStandingOf, impliedOf, firstStandingOf, standingsOf, lackingOf, lacksOf, setupPhaseOf, toCallerOf, toCalledOf, setupCarriesOf}
-use Rattle.fates.specs.Fates.{decidedOf, settledOf, settlesOf, failureOf, failedOf, alertingFatesOf, connectFatesOf}
+use Rattle.fates.specs.Fates.{decidedOf, alertingFatesOf, connectFatesOf}
+use Rattle.consequences.specs.Consequences.{settledOf, settlesOf, failureOf, failedOf}
 use Rattle.numbers.specs.Answer.{takenOf}
 use Rattle.asking.specs.Asking.{nobodyAsks, asksOf, mayAskOf, toRequestOf, toAnswerOf, facilityAnswerOf, facilityThreeOf}
 use Rattle.telling.specs.Telling.{aboutThreeOf}
 use Rattle.sent.specs.Message.{sayingOf, bareOf, congestionOf, informsOf, onlyIfOf}
 use Rattle.phases.specs.Phase.{freshOf, requestedOf, connectableOf, talkingOf, activeOf, upOf, liveOf}
-use Rattle.serving.specs.Serving.{lateOf, servesTwoOf, servesThreeOf, passesOf}
+use Rattle.serving.specs.Serving.{lateOf, servesTwoOf, servesThreeOf}
+use Rattle.passing.specs.Passing.{passesOf}
 use Rattle.sides.specs.Side.{peerOf}
 use Rattle.call.specs.Answering.{answeredCallOf, goesOnOf, clearsOf, outcomeOf, answeredOf, alertingOf, connectOf}
 use Rattle.call.specs.Disconnect.{closedCallOf, passedOnOf, disconnectOf, endsOf, releaseCompleteOf}

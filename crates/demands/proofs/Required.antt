@@ -28,7 +28,8 @@ use Rattle.causes.specs.Cause.{firstOf}
 use Rattle.carriage.specs.Element.{wholeOf}
 use Rattle.rights.specs.Rights.{hasOf}
 use Rattle.requests.specs.Requests.{askedStandingOf, firstStandingOf, standingsOf, lackingOf, lacksOf, setupPhaseOf}
-use Rattle.fates.specs.Fates.{decidedOf, settledOf, settlesOf, failureOf, failedOf, alertingFatesOf, connectFatesOf}
+use Rattle.fates.specs.Fates.{decidedOf, alertingFatesOf, connectFatesOf}
+use Rattle.consequences.specs.Consequences.{settledOf, settlesOf, failureOf, failedOf}
 use Rattle.numbers.specs.Answer.{numberOf, takenOf}
 use Rattle.call.specs.Answering.{answeredCallOf, goesOnOf, clearsOf, outcomeOf, answeredOf, alertingOf, connectOf}
 use Rattle.call.specs.Disconnect.{closedCallOf, passedOnOf, disconnectOf, endsOf, releaseCompleteOf}

@@ -4,10 +4,10 @@ use mathlib.Core.List.{List}
 use Rattle.plan.specs.declared.Looked.{Looked}
 use Rattle.plan.specs.declared.Plan.{Plan}
 use Rattle.settling.specs.declared.settle.Outcome.{Outcome}
-use Rattle.choosing.specs.Choice.{verdictNumber}
+use Rattle.verdicts.specs.Verdict.{verdictNumber}
 use Rattle.deciding.specs.Decided.{planOf}
 use Rattle.trace.specs.declared.reading.Entry.{Entry}
-use Rattle.trace.specs.Reading.{elementOf}
+use Rattle.recorded.specs.Recorded.{elementOf}
 use Rattle.report.specs.declared.Columns.{Columns}
 
 -- the record's event, at what the table shows of it

@@ -1,14 +1,14 @@
 // What a whole record of a trace asks of the table, and the columns of what it is answered.
 ghost use mathlib.Core.Path.{_≡_};
 ghost use Rattle.entries.specs.Entries.{plannedAt, columnsOf};
-use choosing::choice::verdict_number;
 use deciding::plans;
 use plan::Looked;
 use plan::Plan;
+use recorded::element;
 use report::Columns;
 use settling::settle::Outcome;
 use trace::reading::Entry;
-use trace::reading::element;
+use verdicts::verdict_number;
 
 // The record's event, at what the table shows of it.
 pub fn planned(l: Looked, e: Entry, t: &[u8]) -> Plan

@@ -26,13 +26,14 @@ use Rattle.call.specs.Sound.{freshCall, soundOf}
 use Rattle.call.specs.Step.{stepOf}
 use Rattle.table.specs.Table.{tableSound, findFrom, placeFrom}
 use Rattle.chosen.specs.Chosen.{chosenOf}
-use Rattle.choosing.specs.Choice.{verdictNumber, referenceOf, opensOf, rangedOf, newPlaceOf, oldPlaceOf, chooseOf}
+use Rattle.choosing.specs.Choice.{referenceOf, opensOf, rangedOf, newPlaceOf, oldPlaceOf, chooseOf}
+use Rattle.verdicts.specs.Verdict.{verdictNumber}
 use Rattle.settling.specs.Settle.{subjectOf, changesOf, keptOf, outcomeOf, refusalOf, settledOf}
 use Rattle.exchange.specs.Step.{outcomeAt, tableAt, stepOutcome, stepTable}
 use Rattle.exchange.specs.Promises.{heldCall, otherRows, tableRows, numberAt, Table, Refused, OneChanged, OnePlace, LiveAt, Lowest, Names, Named, OneSpent, Fourteen}
 use Rattle.looking.specs.declared.Found.{Found}
 use Rattle.choosing.specs.declared.choice.Choice.{Choice}
-use Rattle.choosing.specs.declared.choice.Verdict.{Verdict}
+use Rattle.verdicts.specs.declared.Verdict.{Verdict}
 use Rattle.ranges.specs.Ranges.{ReferenceInRange, RightsInRange}
 use Rattle.ranges.proofs.Ranges.{reference-range, rights-range}
 use Rattle.exchange.proofs.Counted.{both, and-true, clash, found-held, not-found, no-place, not-full, not-faulty, is-faulty, found-call, found-live, found-lowest}

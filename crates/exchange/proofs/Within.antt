@@ -15,7 +15,7 @@ use Rattle.chosen.specs.Chosen.{chosenOf}
 use Rattle.choosing.specs.Choice.{referenceOf, opensOf, rangedOf, newPlaceOf, oldPlaceOf, chooseOf}
 use Rattle.looking.specs.declared.Found.{Found}
 use Rattle.choosing.specs.declared.choice.Choice.{Choice}
-use Rattle.choosing.specs.declared.choice.Verdict.{Verdict}
+use Rattle.verdicts.specs.declared.Verdict.{Verdict}
 
 -- the number of a place
 found-number : Found → ℕ

@@ -14,7 +14,7 @@ use Rattle.call.specs.Sound.{freshCall}
 use Rattle.call.specs.Step.{stepOf}
 use Rattle.ranges.specs.Ranges.{ReferenceInRange, RightsInRange, InRangeCall}
 use Rattle.looking.specs.Look.{liveAs}
-use Rattle.choosing.specs.Choice.{verdictNumber}
+use Rattle.verdicts.specs.Verdict.{verdictNumber}
 use Rattle.exchange.specs.Step.{stepOutcome, stepTable}
 
 -- "Places Fresh or Ended are free, all others are live"

@@ -5,25 +5,12 @@ use lib.Dec.{leb}
 use Rattle.rights.specs.Rights.{within, greatestBurst, greatestRefill}
 use Rattle.meter.specs.declared.Meter.{Meter}
 use Rattle.meter.specs.declared.Passage.{Passage}
-use Rattle.lent.specs.declared.Spent.{Spent}
-use Rattle.lent.specs.declared.Ticked.{Ticked}
+use Rattle.metered.specs.declared.Spent.{Spent}
+use Rattle.metered.specs.declared.Ticked.{Ticked}
 use Rattle.lent.specs.declared.Spending.{Spending}
 use Rattle.lent.specs.declared.Ticking.{Ticking}
-use Rattle.meter.specs.Meter.{meterFitsOf, passageOf, afterOf, tickedOf}
-
--- the paper's number of each answer
-abbrev pub spentNumber : Spent → ℕ
-spentNumber Spent.Two = 0
-spentNumber Spent.Three = 0
-spentNumber Spent.Marked = 14
-spentNumber Spent.Dropped = 14
-spentNumber Spent.Unserved = 13
-spentNumber Spent.Unsound = 25
-
-abbrev pub tickedNumber : Ticked → ℕ
-tickedNumber Ticked.Ready = 0
-tickedNumber Ticked.Quiet = 0
-tickedNumber Ticked.Unsound = 25
+use Rattle.meter.specs.Meter.{meterFitsOf, tickedOf}
+use Rattle.passage.specs.Passage.{passageOf, afterOf}
 
 abbrev pub spentBy : Passage → Spent
 spentBy (Passage.Two n) = Spent.Two

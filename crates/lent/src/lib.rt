@@ -1,32 +1,16 @@
 // The flow meter of one direction, lent by its holder and changed there.
 ghost use mathlib.Core.Path.{_≡_};
-ghost use Rattle.lent.specs.Lent.{spentNumber, tickedNumber, spentBy, lentFitsOf, spendsOf, ticksOf};
+ghost use Rattle.lent.specs.Lent.{spentBy, lentFitsOf, spendsOf, ticksOf};
 use meter::Meter;
 use meter::Passage;
-use meter::after;
 use meter::meter_fits;
-use meter::passage_of;
 use meter::ticked;
+use metered::Spent;
+use metered::Ticked;
+use passage::after;
+use passage::passage_of;
 use rights::GREATEST_BURST;
 use rights::GREATEST_REFILL;
-
-// What became of a message: it passed under service 2 or under service 3, it was dropped and set the mark, it was dropped, or no
-// service serves it. Unsound: the meter was not looked at further.
-pub enum Spent {
-    Two,
-    Three,
-    Marked,
-    Dropped,
-    Unserved,
-    Unsound,
-}
-
-// Whether a tick cleared the mark, so that ready is to be sent.
-pub enum Ticked {
-    Ready,
-    Quiet,
-    Unsound,
-}
 
 pub struct Spending {
     pub next: Meter,
@@ -36,29 +20,6 @@ pub struct Spending {
 pub struct Ticking {
     pub next: Meter,
     pub ticked: Ticked,
-}
-
-pub fn spent_number(s: Spent) -> u8
-    ensures { λ r. ⌜ r ≡ spentNumber s ⌝ }
-{
-    match s {
-        Spent::Two => 0,
-        Spent::Three => 0,
-        Spent::Marked => 14,
-        Spent::Dropped => 14,
-        Spent::Unserved => 13,
-        Spent::Unsound => 25,
-    }
-}
-
-pub fn ticked_number(t: Ticked) -> u8
-    ensures { λ r. ⌜ r ≡ tickedNumber t ⌝ }
-{
-    match t {
-        Ticked::Ready => 0,
-        Ticked::Quiet => 0,
-        Ticked::Unsound => 25,
-    }
 }
 
 fn spent_by(p: Passage) -> Spent

@@ -1,6 +1,6 @@
-// The flow meter of one direction: what a message spends, and what a tick gives back.
+// The flow meter of one direction: what it holds, and what a tick gives back.
 ghost use mathlib.Core.Path.{_≡_};
-ghost use Rattle.meter.specs.Meter.{emptyOf, meterFitsOf, grantedOf, refilledOf, tickedOf, underThreeOf, passageOf, afterOf};
+ghost use Rattle.meter.specs.Meter.{emptyOf, meterFitsOf, grantedOf, refilledOf, tickedOf};
 
 // Messages that service 2 lets through in one direction.
 pub const GREATEST_COUNT: u8 = 2;
@@ -70,68 +70,5 @@ pub fn ticked(m: Meter, burst: u16, refill: u16) -> Meter
         credit: refilled(m.credit, burst, refill),
         mark: false,
         count: m.count,
-    }
-}
-
-// A message that service 3 pays for, or that is dropped for credit.
-fn under_three(m: Meter) -> Passage
-    ensures { λ r. ⌜ r ≡ underThreeOf m ⌝ }
-{
-    if 0 < m.credit {
-        Passage::Three(Meter {
-            credit: m.credit - 1,
-            mark: m.mark,
-            count: m.count,
-        })
-    } else {
-        if m.mark {
-            Passage::Spent
-        } else {
-            Passage::Marks(Meter {
-                credit: m.credit,
-                mark: true,
-                count: m.count,
-            })
-        }
-    }
-}
-
-// The count of service 2 is tried first, and then the credit of service 3.
-pub fn passage_of(m: Meter, two: bool, three: bool) -> Passage
-    ensures { λ r. ⌜ r ≡ passageOf m two three ⌝ }
-{
-    if two {
-        if m.count < GREATEST_COUNT {
-            Passage::Two(Meter {
-                credit: m.credit,
-                mark: m.mark,
-                count: m.count + 1,
-            })
-        } else {
-            if three {
-                under_three(m)
-            } else {
-                Passage::Spent
-            }
-        }
-    } else {
-        if three {
-            under_three(m)
-        } else {
-            Passage::Unserved
-        }
-    }
-}
-
-// The meter after a message: a message that is only dropped changes nothing.
-pub fn after(m: Meter, p: Passage) -> Meter
-    ensures { λ r. ⌜ r ≡ afterOf m p ⌝ }
-{
-    match p {
-        Passage::Two(n) => n,
-        Passage::Three(n) => n,
-        Passage::Marks(n) => n,
-        Passage::Spent => m,
-        Passage::Unserved => m,
     }
 }

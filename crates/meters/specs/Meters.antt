@@ -2,7 +2,8 @@
 use mathlib.Core.Bool.{Bool, _&&_}
 use Rattle.rights.specs.declared.Rights.{Rights}
 use Rattle.meters.specs.declared.Meters.{Meters}
-use Rattle.meter.specs.Meter.{emptyOf, grantedOf, afterOf, meterFitsOf}
+use Rattle.meter.specs.Meter.{emptyOf, grantedOf, meterFitsOf}
+use Rattle.passage.specs.Passage.{afterOf}
 use Rattle.rights.specs.Rights.{rightsFitOf, referenceFitsOf}
 use Prim.Native.Nat.{ℕ}
 use Rattle.meter.specs.declared.Meter.{Meter}

@@ -22,7 +22,8 @@ use Rattle.standing.specs.declared.Standings.{Standings}
 use Rattle.causes.specs.Cause.{firstOf}
 use Rattle.carriage.specs.Element.{wholeOf}
 use Rattle.requests.specs.Requests.{lacksOf, toCallerOf, toCalledOf}
-use Rattle.fates.specs.Fates.{decidedOf, failureOf, failedOf, alertingFatesOf, connectFatesOf}
+use Rattle.fates.specs.Fates.{decidedOf, alertingFatesOf, connectFatesOf}
+use Rattle.consequences.specs.Consequences.{failureOf, failedOf}
 use Rattle.numbers.specs.declared.Answer.{Answer}
 use Rattle.sent.specs.declared.Kind.{Kind}
 use Rattle.sent.specs.declared.Level.{Level}

@@ -15,7 +15,8 @@ use Rattle.trace.specs.declared.reading.Entry.{Entry}
 use Rattle.trace.specs.declared.reading.Fault.{Fault}
 use Rattle.trace.specs.declared.reading.Record.{Record}
 use Rattle.body.specs.Kind.{kindOf, sizeOf}
-use Rattle.trace.specs.Reading.{referenceOf, fieldAtOf, placeOf, setupRangedOf, answeringRangedOf, informationRangedOf, facilityRangedOf, disconnectRangedOf, rangedOf, rightsOf, eventOf, countOf, entryOf, namedOf, recordOf, elementOf}
+use Rattle.trace.specs.Reading.{referenceOf, fieldAtOf, placeOf, setupRangedOf, answeringRangedOf, informationRangedOf, facilityRangedOf, disconnectRangedOf, rangedOf, rightsOf, eventOf, countOf, entryOf, namedOf, recordOf}
+use Rattle.recorded.specs.Recorded.{elementOf}
 use Rattle.trace.specs.Promises.{Field, InRange}
 use Rattle.body.proofs.Sizes.{least}
 use Rattle.trace.proofs.Ranged.{in-range}

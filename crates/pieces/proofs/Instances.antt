@@ -28,7 +28,8 @@ use Rattle.exchange.specs.Step.{stepOutcome, stepTable}
 use Rattle.body.specs.Kind.{kindOf}
 use Rattle.body.specs.Field.{blankOf, fieldFitsOf}
 use Rattle.values.specs.Values.{flagOf, requestOf}
-use Rattle.trace.specs.Reading.{referenceOf, threeFitOf, fieldAtOf, setupRangedOf, rightsOf, requestsOf, countOf, entryOf, recordOf, elementOf}
+use Rattle.trace.specs.Reading.{referenceOf, threeFitOf, fieldAtOf, setupRangedOf, rightsOf, requestsOf, countOf, entryOf, recordOf}
+use Rattle.recorded.specs.Recorded.{elementOf}
 use Rattle.trace.proofs.Tests.{both}
 use Rattle.text.specs.Decimal.{digitsOf, decimalOf}
 use Rattle.text.specs.Hex.{digitOf}

@@ -15,14 +15,15 @@ use Rattle.sent.specs.declared.Message.{Message}
 use Rattle.sent.specs.declared.Sent.{Sent}
 use Rattle.numbers.specs.Answer.{numberOf}
 use Rattle.call.specs.declared.Call.{Call}
-use Rattle.choosing.specs.declared.choice.Verdict.{Verdict}
-use Rattle.choosing.specs.Choice.{verdictNumber}
+use Rattle.verdicts.specs.declared.Verdict.{Verdict}
+use Rattle.verdicts.specs.Verdict.{verdictNumber}
 use Rattle.exchange.specs.Step.{stepOutcome}
 use Rattle.body.specs.declared.kind.Kind.{Kind}
 use Rattle.trace.specs.declared.reading.Entry.{Entry}
 use Rattle.trace.specs.declared.reading.Fault.{Fault}
 use Rattle.body.specs.Kind.{kindOctet}
-use Rattle.trace.specs.Reading.{faultNumber, referenceOf, entryOf, elementOf}
+use Rattle.trace.specs.Reading.{faultNumber, referenceOf, entryOf}
+use Rattle.recorded.specs.Recorded.{elementOf}
 use Rattle.text.specs.Decimal.{decimalOf}
 use Rattle.text.proofs.Digits.{at-most}
 use Rattle.report.specs.declared.Columns.{Columns}

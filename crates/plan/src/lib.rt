@@ -3,8 +3,8 @@ ghost use mathlib.Core.Path.{_≡_};
 ghost use Rattle.plan.specs.Plan.{rowOf, recordOf};
 ghost use Rattle.plan.specs.declared.Looked.{Looked};
 use call::Call;
-use choosing::choice::Verdict;
 use settling::settle::Outcome;
+use verdicts::Verdict;
 
 // What the table shows of an event: the place that it goes to and the record there, or the number that the table gives.
 pub enum Looked {

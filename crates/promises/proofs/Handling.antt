@@ -27,14 +27,14 @@ use Rattle.sides.specs.declared.Side.{Side}
 use Rattle.call.specs.declared.Call.{Call}
 use Rattle.events.specs.declared.Event.{Event}
 use Rattle.call.specs.declared.reply.Reply.{Reply}
-use Rattle.meter.specs.Meter.{underThreeOf, passageOf}
+use Rattle.passage.specs.Passage.{underThreeOf, passageOf}
 use Rattle.carriage.specs.Element.{noteNumberOf, seenOf, notedOf, goesOutOf}
 use Rattle.standing.specs.Standing.{remainsOf}
 use Rattle.requests.specs.Requests.{firstStandingOf, standingsOf, lacksOf, toCallerOf, toCalledOf, setupPhaseOf, setupCarriesOf}
-use Rattle.fates.specs.Fates.{failedOf}
+use Rattle.consequences.specs.Consequences.{failedOf}
 use Rattle.numbers.specs.Answer.{numberOf}
 use Rattle.sent.specs.Message.{sayingOf, bareOf, congestionOf, informsOf, onlyIfOf}
-use Rattle.serving.specs.Serving.{passageAnswerOf, passesOf, marksOf}
+use Rattle.passing.specs.Passing.{passageAnswerOf, passesOf, marksOf}
 use Rattle.call.specs.Answering.{goesOnOf, clearsOf, answeredCallOf, outcomeOf, answeredOf, alertingOf, connectOf}
 use Rattle.call.specs.Disconnect.{closedCallOf, passedOnOf, disconnectOf, endsOf, releaseCompleteOf}
 use Rattle.telling.specs.Telling.{aboutThreeOf}

@@ -34,11 +34,12 @@ use Rattle.carriage.specs.Element.{noteNumberOf, seenOf, notedOf}
 use Rattle.rights.specs.Rights.{hasOf}
 use Rattle.standing.specs.Standing.{inForceOf, awaitsOf, remainsOf, silentAnswers}
 use Rattle.requests.specs.Requests.{firstStandingOf, standingsOf, lackingOf, lacksOf, setupCarriesOf}
-use Rattle.fates.specs.Fates.{decidedOf, settledOf, settlesOf, failureOf, failedOf, alertingFatesOf, connectFatesOf}
+use Rattle.fates.specs.Fates.{decidedOf, alertingFatesOf, connectFatesOf}
+use Rattle.consequences.specs.Consequences.{settledOf, settlesOf, failureOf, failedOf}
 use Rattle.closing.specs.Closing.{closingStandingOf, heardAnswersOf}
 use Rattle.numbers.specs.Answer.{numberOf}
 use Rattle.phases.specs.Phase.{requestedOf}
-use Rattle.serving.specs.Serving.{passageAnswerOf}
+use Rattle.passing.specs.Passing.{passageAnswerOf}
 use Rattle.call.specs.Answering.{answeredCallOf, goesOnOf, clearsOf, outcomeOf, answeredOf, alertingOf, connectOf}
 use Rattle.call.specs.Disconnect.{passedOnOf, disconnectOf, endsOf, releaseCompleteOf}
 use Rattle.call.specs.Facility.{passesFacilityOf, facilityOf}

@@ -20,11 +20,11 @@ use Rattle.sides.specs.declared.Side.{Side}
 use Rattle.call.specs.declared.Call.{Call}
 use Rattle.events.specs.declared.Event.{Event}
 use Rattle.call.specs.declared.reply.Reply.{Reply}
-use Rattle.meter.specs.Meter.{underThreeOf, passageOf}
+use Rattle.passage.specs.Passage.{underThreeOf, passageOf}
 use Rattle.standing.specs.Standing.{inForceOf}
 use Rattle.numbers.specs.Answer.{numberOf}
 use Rattle.asking.specs.Asking.{asksOf, mayAskOf, toRequestOf, toAnswerOf}
-use Rattle.serving.specs.Serving.{passageAnswerOf}
+use Rattle.passing.specs.Passing.{passageAnswerOf}
 use Rattle.sides.specs.Side.{peerOf}
 use Rattle.call.specs.Answering.{alertingOf, connectOf}
 use Rattle.call.specs.Disconnect.{passedOnOf, disconnectOf, endsOf, releaseCompleteOf}

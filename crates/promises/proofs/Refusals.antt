@@ -20,15 +20,15 @@ use Rattle.sides.specs.declared.Side.{Side}
 use Rattle.call.specs.declared.Call.{Call}
 use Rattle.events.specs.declared.Event.{Event}
 use Rattle.call.specs.declared.reply.Reply.{Reply}
-use Rattle.meter.specs.Meter.{markedOf, underThreeOf, passageOf, afterOf}
+use Rattle.passage.specs.Passage.{markedOf, underThreeOf, passageOf, afterOf}
 use Rattle.carriage.specs.Element.{wholeOf}
-use Rattle.fates.specs.Fates.{failedOf}
+use Rattle.consequences.specs.Consequences.{failedOf}
 use Rattle.standing.specs.Standing.{silence}
 use Rattle.numbers.specs.Answer.{numberOf, takenOf}
 use Rattle.asking.specs.Asking.{toRequestOf, toAnswerOf}
 use Rattle.telling.specs.Telling.{notGrantedOf, aboutThreeOf}
 use Rattle.sent.specs.Message.{sayingOf, congestionOf, onlyIfOf}
-use Rattle.serving.specs.Serving.{passageAnswerOf, passesOf, marksOf}
+use Rattle.passing.specs.Passing.{passageAnswerOf, passesOf, marksOf}
 use Rattle.call.specs.Answering.{goesOnOf, clearsOf, outcomeOf, answeredOf, alertingOf, connectOf}
 use Rattle.call.specs.Disconnect.{passedOnOf, disconnectOf, endsOf, releaseCompleteOf}
 use Rattle.call.specs.Facility.{facilityVerdictOf, passesFacilityOf, facilityOf}

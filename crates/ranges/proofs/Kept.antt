@@ -22,9 +22,10 @@ use Rattle.call.specs.declared.Call.{Call}
 use Rattle.events.specs.declared.Event.{Event}
 use Rattle.meters.specs.declared.Meters.{Meters}
 use Rattle.call.specs.declared.reply.Reply.{Reply}
-use Rattle.meter.specs.Meter.{emptyOf, grantedOf, refilledOf, tickedOf, countedOf, spentOf, markedOf, underThreeOf, passageOf, afterOf}
+use Rattle.meter.specs.Meter.{emptyOf, grantedOf, refilledOf, tickedOf}
+use Rattle.passage.specs.Passage.{countedOf, spentOf, markedOf, underThreeOf, passageOf, afterOf}
 use Rattle.carriage.specs.Element.{wholeOf}
-use Rattle.fates.specs.Fates.{failedOf}
+use Rattle.consequences.specs.Consequences.{failedOf}
 use Rattle.numbers.specs.Answer.{takenOf}
 use Rattle.meters.specs.Meters.{grantsOf, inForceAfterOf, facilityMetersOf, meterOf, withMeterOf, emptyMeters}
 use Rattle.ticking.specs.Ticking.{tickedMetersOf, refillsOf}

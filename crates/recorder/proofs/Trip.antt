@@ -20,7 +20,8 @@ use Rattle.trace.specs.declared.reading.Entry.{Entry}
 use Rattle.trace.specs.declared.reading.Record.{Record}
 use Rattle.body.specs.Kind.{kindOf, sizeOf}
 use Rattle.values.specs.Values.{flagOf, sideOf, requestOf, givenOf, whatOf}
-use Rattle.trace.specs.Reading.{referenceOf, rightsOf, requestsOf, answersOf, eventOf, placeOf, countOf, entryOf, recordOf, elementOf}
+use Rattle.trace.specs.Reading.{referenceOf, rightsOf, requestsOf, answersOf, eventOf, placeOf, countOf, entryOf, recordOf}
+use Rattle.recorded.specs.Recorded.{elementOf}
 use Rattle.recorder.specs.Writing.{flagOctet, sideOctet, requestOctet, givenOctet, whatOctet, fieldOctets, headOctets, recordOctets, elementFitsOf, recordFitsOf}
 use Rattle.trace.specs.Promises.{Zeros, Held, Field, InRange}
 use Rattle.recorder.specs.Promises.{Again}

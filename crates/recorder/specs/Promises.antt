@@ -6,7 +6,8 @@ use mathlib.Core.Path.{_≡_}
 use Rattle.events.specs.declared.Event.{Event}
 use Rattle.trace.specs.declared.reading.Record.{Record}
 use Rattle.trace.specs.declared.reading.Entry.{Entry}
-use Rattle.trace.specs.Reading.{recordOf, elementOf}
+use Rattle.trace.specs.Reading.{recordOf}
+use Rattle.recorded.specs.Recorded.{elementOf}
 use Rattle.recorder.specs.Writing.{recordOctets, recordFitsOf}
 
 -- ROUND TRIP. What is written reads back as the same event and element, whatever follows it in the trace.

@@ -18,7 +18,8 @@ use Rattle.trace.specs.declared.reading.Entry.{Entry}
 use Rattle.trace.specs.declared.reading.Fault.{Fault}
 use Rattle.trace.specs.declared.reading.Record.{Record}
 use Rattle.body.specs.Kind.{sizeOf, kindOf}
-use Rattle.trace.specs.Reading.{recordOf, namedOf, entryOf, rangedOf, elementOf}
+use Rattle.trace.specs.Reading.{recordOf, namedOf, entryOf, rangedOf}
+use Rattle.recorded.specs.Recorded.{elementOf}
 use Rattle.body.proofs.Sizes.{least}
 use Rattle.report.specs.Line.{lineOf}
 use Rattle.notices.specs.Notices.{faultLine}

@@ -12,7 +12,7 @@ use Rattle.exchange.specs.Step.{stepOutcome, stepTable}
 use Rattle.trace.specs.declared.reading.Entry.{Entry}
 use Rattle.trace.specs.declared.reading.Fault.{Fault}
 use Rattle.body.specs.Kind.{sizeOf}
-use Rattle.trace.specs.Reading.{elementOf}
+use Rattle.recorded.specs.Recorded.{elementOf}
 use Rattle.report.specs.Line.{lineOf}
 use Rattle.notices.specs.Notices.{faultLine}
 use Rattle.fronts.specs.declared.Front.{Front}

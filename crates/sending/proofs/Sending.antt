@@ -47,9 +47,10 @@ use Rattle.meter.specs.declared.Passage.{Passage}
 use Rattle.causes.specs.Cause.{firstOf}
 use Rattle.carriage.specs.Element.{wholeOf}
 use Rattle.requests.specs.Requests.{lacksOf, toCallerOf, toCalledOf}
-use Rattle.fates.specs.Fates.{decidedOf, failureOf, failedOf, alertingFatesOf, connectFatesOf}
+use Rattle.fates.specs.Fates.{decidedOf, alertingFatesOf, connectFatesOf}
+use Rattle.consequences.specs.Consequences.{failureOf, failedOf}
 use Rattle.sent.specs.Message.{sayingOf, bareOf, congestionOf, informsOf, onlyIfOf}
-use Rattle.serving.specs.Serving.{passesOf, marksOf}
+use Rattle.passing.specs.Passing.{passesOf, marksOf}
 use Rattle.call.specs.Answering.{goesOnOf, clearsOf, outcomeOf, answeredOf, alertingOf, connectOf}
 use Rattle.call.specs.Disconnect.{passedOnOf, disconnectOf, endsOf, releaseCompleteOf}
 use Rattle.telling.specs.Telling.{aboutThreeOf}

@@ -1,16 +1,10 @@
-// Which service serves a USER INFORMATION message, and what its passage is answered.
+// Which service serves a USER INFORMATION message.
 ghost use mathlib.Core.Path.{_≡_};
-ghost use Rattle.serving.specs.Serving.{lateOf, servesTwoOf, servesThreeOf, passageAnswerOf, passesOf, marksOf, servedOf, toSenderOf, toReceiverOf};
+ghost use Rattle.serving.specs.Serving.{lateOf, servesTwoOf, servesThreeOf, servedOf};
 use meter::Meter;
 use meter::Passage;
-use meter::passage_of;
-use numbers::Answer;
+use passage::passage_of;
 use phases::Phase;
-use sent::Level;
-use sent::Sent;
-use sent::congestion;
-use sent::informs;
-use sent::only_if;
 use sides::Side;
 
 // Late delivery is for what the calling side sends.
@@ -59,54 +53,4 @@ pub fn served(m: Meter, p: Phase, side: Side, right: bool, two: bool, three: boo
         serves_two(p, two, late(side, right)),
         serves_three(p, three),
     )
-}
-
-pub fn passage_answer(p: Passage) -> Answer
-    ensures { λ r. ⌜ r ≡ passageAnswerOf p ⌝ }
-{
-    match p {
-        Passage::Two(_) => Answer::Taken,
-        Passage::Three(_) => Answer::Taken,
-        Passage::Marks(_) => Answer::Spent,
-        Passage::Spent => Answer::Spent,
-        Passage::Unserved => Answer::NoService,
-    }
-}
-
-fn passes(p: Passage) -> bool
-    ensures { λ r. ⌜ r ≡ passesOf p ⌝ }
-{
-    match p {
-        Passage::Two(_) => true,
-        Passage::Three(_) => true,
-        Passage::Marks(_) => false,
-        Passage::Spent => false,
-        Passage::Unserved => false,
-    }
-}
-
-fn marks(p: Passage) -> bool
-    ensures { λ r. ⌜ r ≡ marksOf p ⌝ }
-{
-    match p {
-        Passage::Two(_) => false,
-        Passage::Three(_) => false,
-        Passage::Marks(_) => true,
-        Passage::Spent => false,
-        Passage::Unserved => false,
-    }
-}
-
-// The sender is told once that there is no credit.
-pub fn to_sender(p: Passage) -> Sent
-    ensures { λ s. ⌜ s ≡ toSenderOf p ⌝ }
-{
-    only_if(marks(p), congestion(Level::NotReady))
-}
-
-// A message that passes goes on to the other side.
-pub fn to_receiver(p: Passage, more: bool) -> Sent
-    ensures { λ s. ⌜ s ≡ toReceiverOf p more ⌝ }
-{
-    only_if(passes(p), informs(more))
 }

@@ -10,7 +10,7 @@ use Rattle.events.specs.declared.Event.{Event}
 use Rattle.call.specs.declared.reply.Reply.{Reply}
 use Rattle.call.specs.Sound.{freshCall}
 use Rattle.call.specs.Step.{stepOf}
-use Rattle.choosing.specs.declared.choice.Verdict.{Verdict}
+use Rattle.verdicts.specs.declared.Verdict.{Verdict}
 use Rattle.settling.specs.declared.settle.Outcome.{Outcome}
 use Rattle.settling.specs.declared.settle.Settled.{Settled}
 use Rattle.choosing.specs.Choice.{opensOf}

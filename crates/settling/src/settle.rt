@@ -4,11 +4,11 @@ ghost use Rattle.settling.specs.Settle.{subjectOf, changesOf, keptOf, ou
 use call::Call;
 use call::reply::Reply;
 use carriage::Note;
-use choosing::choice::Verdict;
 use choosing::choice::opens;
 use events::Event;
 use numbers::Answer;
 use sent::Sent;
+use verdicts::Verdict;
 
 // calling and called: what is sent to the calling and to the called user.
 pub struct Outcome {

@@ -1,6 +1,6 @@
 -- A record at the front of a trace.
 use Prim.Native.Nat.{ℕ, _+_, _*_}
-use mathlib.Core.List.{List, []}
+use mathlib.Core.List.{List}
 use mathlib.Core.Bool.{Bool, true, false, cond, _&&_}
 use lib.ListN.{length, getD, take, drop}
 use lib.Dec.{ltb, leb, eqb}
@@ -127,7 +127,3 @@ namedOf (Named.Known k) t =
 -- "31, 32, 33: trace: unknown kind; record cut short; field out of range; in this order". A trace may end between records.
 unfoldable pub recordOf : List ℕ → Record
 recordOf t = cond (eqb (length t) 0) Record.End (namedOf (kindOf (getD t 0 0)) t)
-
--- the element's octets, as the part of the trace that they are
-unfoldable pub elementOf : Entry → List ℕ → List ℕ
-elementOf e t = cond (leb (e .at + e .count) (length t)) (take (e .count) (drop (e .at) t)) []

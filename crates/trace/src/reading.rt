@@ -5,7 +5,7 @@ ghost use lib.ListN.{length};
 ghost use Rattle.body.specs.Kind.{sizeOf};
 ghost use Rattle.body.specs.declared.kind.Kind.{Kind};
 ghost use Rattle.body.specs.declared.kind.Named.{Named};
-ghost use Rattle.trace.specs.Reading.{referenceOf, threeFitOf, fieldAtOf, placeOf, setupRangedOf, answeringRangedOf, informationRangedOf, facilityRangedOf, disconnectRangedOf, rangedOf, rightsOf, namedOf, requestsOf, answersOf, eventOf, countOf, entryOf, recordOf, elementOf};
+ghost use Rattle.trace.specs.Reading.{referenceOf, threeFitOf, fieldAtOf, placeOf, setupRangedOf, answeringRangedOf, informationRangedOf, facilityRangedOf, disconnectRangedOf, rangedOf, rightsOf, namedOf, requestsOf, answersOf, eventOf, countOf, entryOf, recordOf};
 use body::field::field_fits;
 use body::kind::Kind;
 use body::kind::Named;
@@ -274,20 +274,4 @@ pub fn read_record(t: &[u8]) -> Record
         Named::Unknown => Record::Refused(Fault::Kind),
         Named::Known(k) => read_kind(k, t),
     }
-}
-
-// The element of a record, as the very part of the trace; empty where there is none.
-pub fn element<'a>(t: &'a [u8], e: Entry) -> &'a [u8]
-    ensures { λ r. ⌜ now r ≡ elementOf e (now (t .entry)) ⌝ }
-{
-    let at = e.at;
-    let count = e.count;
-    if at > t.len() {
-        return &t[0..0];
-    }
-    if t.len() - at < count {
-        return &t[0..0];
-    }
-    let end = at + count;
-    &t[at..end]
 }

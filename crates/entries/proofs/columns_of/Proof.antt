@@ -4,7 +4,7 @@ use Rattle.entries.proofs.columns_of.Statement.{statement}
 use Rattle.entries.proofs.columns_of.Tie as tie
 use Rattle.entries.proofs.columns_of.Reads as reads
 use Rattle.entries.proofs.columns_of.Lts as lts
-use Rattle.choosing.proofs.choice.verdict_number.Reads as verdict-number-reads
+use Rattle.verdicts.proofs.verdict_number.Reads as verdict-number-reads
 
 verdict-number-requires : tie.Need-verdict-number-requires
 verdict-number-requires c κs = search needs

@@ -5,7 +5,7 @@ use Rattle.entries.proofs.planned.Tie as tie
 use Rattle.entries.proofs.planned.Reads as reads
 use Rattle.entries.proofs.planned.Lts as lts
 use Rattle.deciding.proofs.plans.Reads as plans-reads
-use Rattle.trace.proofs.reading.element.Reads as element-reads
+use Rattle.recorded.proofs.element.Reads as element-reads
 
 element-requires : tie.Need-element-requires
 element-requires c κs = search needs

@@ -41,15 +41,15 @@ use denote.Triple.Walked.{says, Stays, stay-ref, stay-dropped, walkOf, goes-drop
 use denote.Exit.{yes}
 use Rattle.lent.specs.Lent.{spendsOf}
 use Rattle.meter.specs.declared.Meter.{Meter}
-use Rattle.lent.specs.declared.Spent.{Spent}
+use Rattle.metered.specs.declared.Spent.{Spent}
 use Rattle.lent.specs.declared.Spending.{Spending}
 use Rattle.meter.proofs.Plainly.{pre-plain, calls-plain}
 use Rattle.meter.proofs.Meter as T
 use Rattle.meter.proofs.Meter.Laws as T′
 use Rattle.lent.proofs.Spending as U
 use Rattle.lent.proofs.Spending.Laws as U′
-use Rattle.lent.proofs.Spent as R
-use Rattle.lent.proofs.Spent.Laws as R′
+use Rattle.metered.proofs.Spent as R
+use Rattle.metered.proofs.Spent.Laws as R′
 use Rattle.lent.proofs.spends as g
 use Rattle.lent.proofs.spends.Symbol as g-def
 use Rattle.lent.proofs.spends.Symbol.{name as #g}

@@ -40,15 +40,15 @@ use denote.Triple.Walked.{says, Stays, stay-ref, stay-dropped, walkOf, goes-drop
 use denote.Exit.{yes}
 use Rattle.lent.specs.Lent.{ticksOf}
 use Rattle.meter.specs.declared.Meter.{Meter}
-use Rattle.lent.specs.declared.Ticked.{Ticked}
+use Rattle.metered.specs.declared.Ticked.{Ticked}
 use Rattle.lent.specs.declared.Ticking.{Ticking}
 use Rattle.meter.proofs.Plainly.{pre-plain, calls-plain}
 use Rattle.meter.proofs.Meter as T
 use Rattle.meter.proofs.Meter.Laws as T′
 use Rattle.lent.proofs.Ticking as U
 use Rattle.lent.proofs.Ticking.Laws as U′
-use Rattle.lent.proofs.Ticked as R
-use Rattle.lent.proofs.Ticked.Laws as R′
+use Rattle.metered.proofs.Ticked as R
+use Rattle.metered.proofs.Ticked.Laws as R′
 use Rattle.lent.proofs.ticks as g
 use Rattle.lent.proofs.ticks.Symbol as g-def
 use Rattle.lent.proofs.ticks.Symbol.{name as #g}

@@ -3,7 +3,7 @@ use Rattle.meters.proofs.spent.Statement.{statement}
 use Rattle.meters.proofs.spent.Tie as tie
 use Rattle.meters.proofs.spent.Reads as reads
 use Rattle.meters.proofs.spent.Lts as lts
-use Rattle.meter.proofs.after.Reads as after-reads
+use Rattle.passage.proofs.after.Reads as after-reads
 use Rattle.meters.proofs.meter_of.Reads as meter-of-reads
 use Rattle.meters.proofs.with_meter.Reads as with-meter-reads
 

@@ -3,7 +3,7 @@ use Rattle.serving.proofs.served.Statement.{statement}
 use Rattle.serving.proofs.served.Tie as tie
 use Rattle.serving.proofs.served.Reads as reads
 use Rattle.serving.proofs.served.Lts as lts
-use Rattle.meter.proofs.passage_of.Reads as passage-of-reads
+use Rattle.passage.proofs.passage_of.Reads as passage-of-reads
 use Rattle.serving.proofs.late.Reads as late-reads
 use Rattle.serving.proofs.serves_three.Reads as serves-three-reads
 use Rattle.serving.proofs.serves_two.Reads as serves-two-reads

@@ -7,9 +7,9 @@ use Rattle.call.proofs.information.carried.Lts as lts
 use Rattle.call.proofs.information.with_meters.Reads as with-meters-reads
 use Rattle.call.proofs.reply.reply_to.Reads as reply-to-reads
 use Rattle.meters.proofs.spent.Reads as spent-reads
-use Rattle.serving.proofs.passage_answer.Reads as passage-answer-reads
-use Rattle.serving.proofs.to_receiver.Reads as to-receiver-reads
-use Rattle.serving.proofs.to_sender.Reads as to-sender-reads
+use Rattle.passing.proofs.passage_answer.Reads as passage-answer-reads
+use Rattle.passing.proofs.to_receiver.Reads as to-receiver-reads
+use Rattle.passing.proofs.to_sender.Reads as to-sender-reads
 
 spent-requires : tie.Need-spent-requires
 spent-requires c κs = search needs

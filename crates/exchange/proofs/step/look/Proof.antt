@@ -52,7 +52,7 @@ use Rattle.chosen.specs.Chosen.{chosenOf}
 use Rattle.exchange.specs.Halves.{lookAt, lookOf}
 use Rattle.choosing.specs.declared.choice.Choice.{Choice}
 use Rattle.choosing.specs.declared.choice.Choice.the-variants.{At, Refused}
-use Rattle.choosing.specs.declared.choice.Verdict.{Verdict}
+use Rattle.verdicts.specs.declared.Verdict.{Verdict}
 use Rattle.plan.specs.declared.Looked.{Looked}
 use Rattle.table.proofs.Arms.{assigns-on}
 use Rattle.table.proofs.Ends.{full, forgets, frees-all}
@@ -61,8 +61,8 @@ use Rattle.plan.proofs.Looked as U
 use Rattle.plan.proofs.Looked.Laws as U′
 use Rattle.choosing.proofs.choice.Choice as R
 use Rattle.choosing.proofs.choice.Choice.Laws as R′
-use Rattle.choosing.proofs.choice.Verdict as N
-use Rattle.choosing.proofs.choice.Verdict.Laws as N′
+use Rattle.verdicts.proofs.Verdict as N
+use Rattle.verdicts.proofs.Verdict.Laws as N′
 use Rattle.chosen.proofs.chosen as g
 use Rattle.chosen.proofs.chosen.Symbol as g-def
 use Rattle.chosen.proofs.chosen.Symbol.{name as #g}
