@@ -1,9 +1,8 @@
 // ALERTING and CONNECT: the called side answers what was asked for.
 ghost use mathlib.Core.Path.{_≡_};
-ghost use Rattle.call.specs.Answering.{answeredCallOf, goesOnOf, clearsOf, outcomeOf, alertingOf, connectOf};
+ghost use Rattle.call.specs.Answering.{goesOnOf, clearsOf, answeredOf, alertingOf, connectOf};
 use crate::Call;
 use crate::reply::Reply;
-use crate::reply::barred;
 use crate::reply::heard;
 use crate::sound::in_phase;
 use carriage::Seen;
@@ -31,34 +30,27 @@ use sent::saying;
 use standing::Answers;
 use standing::in_force;
 
-fn answered_call(c: Call, next: Phase, fates: Fates) -> Call
-    ensures { λ r. ⌜ r ≡ answeredCallOf c next fates ⌝ }
-{
-    let rights = c.rights;
-    let standings = c.standings;
-    let asking = c.asking;
-    let meters = c.meters;
-    let three = fates.three;
-    Call {
-        reference: c.reference,
-        rights: rights,
-        phase: next,
-        standings: settles(standings, fates),
-        asking: asking,
-        meters: in_force_after(meters, rights.burst, three),
-    }
-}
-
 // The message goes on to the caller with the answers, and the call enters its next phase.
 fn goes_on(c: Call, kind: Kind, next: Phase, fates: Fates, seen: Seen) -> Reply
     ensures { λ r. ⌜ r ≡ goesOnOf c kind next fates seen ⌝ }
 {
-    let call = answered_call(c, next, fates);
-    let standings = call.standings;
+    let rights = c.rights;
+    let before = c.standings;
+    let asking = c.asking;
+    let meters = c.meters;
+    let three = fates.three;
+    let standings = settles(before, fates);
     let one = standings.one;
     let carried = in_force(one);
     Reply {
-        call: call,
+        call: Call {
+            reference: c.reference,
+            rights: rights,
+            phase: next,
+            standings: standings,
+            asking: asking,
+            meters: in_force_after(meters, rights.burst, three),
+        },
         answer: Answer::Taken,
         note: noted(seen, carried),
         calling: saying(kind, Cause::Absent, tells(fates), goes_out(seen, carried)),
@@ -84,10 +76,13 @@ fn clears(c: Call, cause: u8, fates: Fates, seen: Seen) -> Reply
     }
 }
 
-fn outcome(c: Call, kind: Kind, next: Phase, fates: Fates, seen: Seen, failure: Cause) -> Reply
-    ensures { λ r. ⌜ r ≡ outcomeOf c kind next fates seen failure ⌝ }
+// One message with answers: it goes on, unless a required service failed.
+fn answered(c: Call, kind: Kind, next: Phase, fates: Fates, element: &[u8]) -> Reply
+    ensures { λ r. ⌜ r ≡ answeredOf c kind next fates (now (element .entry)) ⌝ }
 {
-    match failure {
+    let rights = c.rights;
+    let seen = look(element, rights.limit);
+    match failed(fates) {
         Cause::Absent => goes_on(c, kind, next, fates, seen),
         Cause::Value(n) => clears(c, n, fates, seen),
     }
@@ -98,33 +93,19 @@ impl Call {
         ensures { λ r. ⌜ r ≡ alertingOf self answers (now (element .entry)) ⌝ }
     {
         let phase = self.phase;
-        let rights = self.rights;
         let standings = self.standings;
-        let bar = barred(self, is_requested(phase), true);
         let fates = alerting_fates(standings, answers);
-        let seen = look(element, rights.limit);
-        let failure = failed(fates);
-        heard(
-            self,
-            bar,
-            outcome(self, Kind::Alerting, Phase::Alerting, fates, seen, failure),
-        )
+        let reply = answered(self, Kind::Alerting, Phase::Alerting, fates, element);
+        heard(self, is_requested(phase), true, reply)
     }
 
     pub fn connect(self, answers: Answers, element: &[u8]) -> Reply
         ensures { λ r. ⌜ r ≡ connectOf self answers (now (element .entry)) ⌝ }
     {
         let phase = self.phase;
-        let rights = self.rights;
         let standings = self.standings;
-        let bar = barred(self, is_connectable(phase), true);
         let fates = connect_fates(!is_requested(phase), standings, answers);
-        let seen = look(element, rights.limit);
-        let failure = failed(fates);
-        heard(
-            self,
-            bar,
-            outcome(self, Kind::Connect, Phase::Active, fates, seen, failure),
-        )
+        let reply = answered(self, Kind::Connect, Phase::Active, fates, element);
+        heard(self, is_connectable(phase), true, reply)
     }
 }

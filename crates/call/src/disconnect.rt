@@ -1,9 +1,8 @@
 // DISCONNECT and RELEASE COMPLETE.
 ghost use mathlib.Core.Path.{_≡_};
-ghost use Rattle.call.specs.Disconnect.{closedCallOf, passedOnOf, endsOf, disconnectOf, releaseCompleteOf};
+ghost use Rattle.call.specs.Disconnect.{passedOnOf, disconnectOf, releaseCompleteOf};
 use crate::Call;
 use crate::reply::Reply;
-use crate::reply::barred;
 use crate::reply::heard;
 use crate::reply::reply_to;
 use crate::sound::in_phase;
@@ -27,41 +26,20 @@ use sent::bare;
 use sent::saying;
 use sides::Side;
 use standing::Answers;
-use standing::Standing;
 use standing::Standings;
 use standing::in_force;
 
-// The record keeps what it had, but for service 1 accepted at the last moment.
-fn closed_call(c: Call, one: Standing) -> Call
-    ensures { λ r. ⌜ r ≡ closedCallOf c one ⌝ }
+// `answers` are those that count. The record keeps what it had, but for service 1 accepted at the last moment.
+fn passed_on(c: Call, side: Side, cause: u8, answers: Answers, seen: Seen) -> Reply
+    ensures { λ r. ⌜ r ≡ passedOnOf c side cause answers seen ⌝ }
 {
     let rights = c.rights;
     let standings = c.standings;
     let asking = c.asking;
     let meters = c.meters;
+    let one = standings.one;
     let two = standings.two;
     let three = standings.three;
-    Call {
-        reference: c.reference,
-        rights: rights,
-        phase: Phase::Clearing,
-        standings: Standings {
-            one: one,
-            two: two,
-            three: three,
-        },
-        asking: asking,
-        meters: meters,
-    }
-}
-
-// `answers` are those that count.
-fn passed_on(c: Call, side: Side, cause: u8, answers: Answers, seen: Seen) -> Reply
-    ensures { λ r. ⌜ r ≡ passedOnOf c side cause answers seen ⌝ }
-{
-    let standings = c.standings;
-    let asking = c.asking;
-    let one = standings.one;
     let first = answers.one;
     let next = closing_standing(one, first);
     let carried = in_force(next);
@@ -72,26 +50,25 @@ fn passed_on(c: Call, side: Side, cause: u8, answers: Answers, seen: Seen) -> Re
         said,
         goes_out(seen, carried),
     );
+    let call = Call {
+        reference: c.reference,
+        rights: rights,
+        phase: Phase::Clearing,
+        standings: Standings {
+            one: next,
+            two: two,
+            three: three,
+        },
+        asking: asking,
+        meters: meters,
+    };
     reply_to(
         side,
-        closed_call(c, next),
+        call,
         Answer::Taken,
         noted(seen, carried),
         Sent::Absent,
         on,
-    )
-}
-
-fn ends(c: Call, side: Side) -> Reply
-    ensures { λ r. ⌜ r ≡ endsOf c side ⌝ }
-{
-    reply_to(
-        side,
-        in_phase(c, Phase::Ended),
-        Answer::Taken,
-        Note::Clear,
-        Sent::Absent,
-        bare(Kind::ReleaseComplete, Cause::Absent),
     )
 }
 
@@ -101,17 +78,19 @@ impl Call {
     {
         let phase = self.phase;
         let rights = self.rights;
-        let bar = barred(self, is_up(phase), cause <= GREATEST_CAUSE);
         let seen = look(element, rights.limit);
         let counted = heard_answers(side, answers);
-        heard(self, bar, passed_on(self, side, cause, counted, seen))
+        let reply = passed_on(self, side, cause, counted, seen);
+        heard(self, is_up(phase), cause <= GREATEST_CAUSE, reply)
     }
 
     pub fn release_complete(self, side: Side) -> Reply
         ensures { λ r. ⌜ r ≡ releaseCompleteOf self side ⌝ }
     {
         let phase = self.phase;
-        let bar = barred(self, is_live(phase), true);
-        heard(self, bar, ends(self, side))
+        let on = bare(Kind::ReleaseComplete, Cause::Absent);
+        let call = in_phase(self, Phase::Ended);
+        let reply = reply_to(side, call, Answer::Taken, Note::Clear, Sent::Absent, on);
+        heard(self, is_live(phase), true, reply)
     }
 }

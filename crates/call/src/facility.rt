@@ -3,7 +3,6 @@ ghost use mathlib.Core.Path.{_≡_};
 ghost use Rattle.call.specs.Facility.{facilityVerdictOf, facilityCallOf, passesFacilityOf, facilityOf};
 use crate::Call;
 use crate::reply::Reply;
-use crate::reply::barred;
 use crate::reply::heard;
 use crate::reply::reply_to;
 use asking::What;
@@ -12,7 +11,6 @@ use asking::facility_three;
 use asking::verdict;
 use carriage::Note;
 use meters::facility_meters;
-use numbers::Answer;
 use numbers::taken;
 use phases::is_active;
 use sides::Side;
@@ -20,16 +18,6 @@ use standing::Standings;
 use standing::in_force;
 use telling::to_asker;
 use telling::to_other;
-
-fn facility_verdict(c: Call, side: Side, what: What) -> Answer
-    ensures { λ r. ⌜ r ≡ facilityVerdictOf c side what ⌝ }
-{
-    let rights = c.rights;
-    let asking = c.asking;
-    let standings = c.standings;
-    let three = standings.three;
-    verdict(rights, asking, in_force(three), side, what)
-}
 
 fn facility_call(c: Call, side: Side, what: What) -> Call
     ensures { λ r. ⌜ r ≡ facilityCallOf c side what ⌝ }
@@ -56,16 +44,21 @@ fn facility_call(c: Call, side: Side, what: What) -> Call
     }
 }
 
-fn passes_facility(c: Call, side: Side, what: What, verdict: Answer) -> Reply
-    ensures { λ r. ⌜ r ≡ passesFacilityOf c side what verdict ⌝ }
+fn passes_facility(c: Call, side: Side, what: What) -> Reply
+    ensures { λ r. ⌜ r ≡ passesFacilityOf c side what (facilityVerdictOf c side what) ⌝ }
 {
-    let back = to_asker(verdict);
-    let on = to_other(verdict, what);
-    if taken(verdict) {
+    let rights = c.rights;
+    let asking = c.asking;
+    let standings = c.standings;
+    let three = standings.three;
+    let answer = verdict(rights, asking, in_force(three), side, what);
+    let back = to_asker(answer);
+    let on = to_other(answer, what);
+    if taken(answer) {
         let next = facility_call(c, side, what);
-        reply_to(side, next, verdict, Note::Clear, back, on)
+        reply_to(side, next, answer, Note::Clear, back, on)
     } else {
-        reply_to(side, c, verdict, Note::Clear, back, on)
+        reply_to(side, c, answer, Note::Clear, back, on)
     }
 }
 
@@ -74,8 +67,7 @@ impl Call {
         ensures { λ r. ⌜ r ≡ facilityOf self side what ⌝ }
     {
         let phase = self.phase;
-        let bar = barred(self, is_active(phase), true);
-        let verdict = facility_verdict(self, side, what);
-        heard(self, bar, passes_facility(self, side, what, verdict))
+        let reply = passes_facility(self, side, what);
+        heard(self, is_active(phase), true, reply)
     }
 }

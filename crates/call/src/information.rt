@@ -3,7 +3,6 @@ ghost use mathlib.Core.Path.{_≡_};
 ghost use Rattle.call.specs.Information.{metersOf, informationPassageOf, carriedOf, withElementOf, informationOf};
 use crate::Call;
 use crate::reply::Reply;
-use crate::reply::barred;
 use crate::reply::heard;
 use crate::reply::refused;
 use crate::reply::reply_to;
@@ -12,7 +11,6 @@ use carriage::Seen;
 use carriage::look;
 use carriage::noted;
 use carriage::whole;
-use meter::Passage;
 use meters::Meters;
 use meters::meter_of;
 use meters::spent;
@@ -25,26 +23,16 @@ use serving::served;
 use sides::Side;
 use standing::in_force;
 
-pub(crate) fn with_meters(c: Call, m: Meters) -> Call
+pub(crate) fn with_meters(mut c: Call, m: Meters) -> Call
     ensures { λ r. ⌜ r ≡ metersOf c m ⌝ }
 {
-    let rights = c.rights;
-    let phase = c.phase;
-    let standings = c.standings;
-    let asking = c.asking;
-    Call {
-        reference: c.reference,
-        rights: rights,
-        phase: phase,
-        standings: standings,
-        asking: asking,
-        meters: m,
-    }
+    c.meters = m;
+    c
 }
 
-// What a side's message meets in its meter.
-fn information_passage(c: Call, side: Side) -> Passage
-    ensures { λ r. ⌜ r ≡ informationPassageOf c side ⌝ }
+// What a side's message meets in its meter, what that makes of the call, and the messages.
+fn carried(c: Call, side: Side, more: bool) -> Reply
+    ensures { λ r. ⌜ r ≡ carriedOf c side more (informationPassageOf c side) ⌝ }
 {
     let rights = c.rights;
     let phase = c.phase;
@@ -52,21 +40,15 @@ fn information_passage(c: Call, side: Side) -> Passage
     let meters = c.meters;
     let two = standings.two;
     let three = standings.three;
-    served(
-        meter_of(meters, side),
+    let own = meter_of(meters, side);
+    let p = served(
+        own,
         phase,
         side,
         rights.late,
         in_force(two),
         in_force(three),
-    )
-}
-
-// What the passage makes of the call, and the messages.
-fn carried(c: Call, side: Side, more: bool, p: Passage) -> Reply
-    ensures { λ r. ⌜ r ≡ carriedOf c side more p ⌝ }
-{
-    let meters = c.meters;
+    );
     reply_to(
         side,
         with_meters(c, spent(meters, side, p)),
@@ -94,10 +76,8 @@ impl Call {
     {
         let phase = self.phase;
         let rights = self.rights;
-        let bar = barred(self, is_talking(phase), true);
         let seen = look(element, rights.limit);
-        let passage = information_passage(self, side);
-        let reply = carried(self, side, more, passage);
-        heard(self, bar, with_element(self, seen, reply))
+        let reply = with_element(self, seen, carried(self, side, more));
+        heard(self, is_talking(phase), true, reply)
     }
 }

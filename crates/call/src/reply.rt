@@ -19,13 +19,6 @@ pub struct Reply {
     pub called: Sent,
 }
 
-// What bars an event from being heard, if anything does.
-pub(crate) fn barred(c: Call, allowed: bool, ranged: bool) -> Answer
-    ensures { λ r. ⌜ r ≡ barOf c allowed ranged ⌝ }
-{
-    first_bar(c.sound(), allowed, ranged)
-}
-
 // A refusal leaves the record as it was and sends nothing.
 pub(crate) fn refused(c: Call, a: Answer, note: Note) -> Reply
     ensures { λ r. ⌜ r ≡ refusedOf c a note ⌝ }
@@ -39,10 +32,11 @@ pub(crate) fn refused(c: Call, a: Answer, note: Note) -> Reply
     }
 }
 
-// The reply, unless the event is barred.
-pub(crate) fn heard(c: Call, bar: Answer, r: Reply) -> Reply
-    ensures { λ s. ⌜ s ≡ heardOf c bar r ⌝ }
+// The reply, unless 25, 11 or 24 bars the event from being heard.
+pub(crate) fn heard(c: Call, allowed: bool, ranged: bool, r: Reply) -> Reply
+    ensures { λ s. ⌜ s ≡ heardOf c (barOf c allowed ranged) r ⌝ }
 {
+    let bar = first_bar(c.sound(), allowed, ranged);
     if taken(bar) {
         r
     } else {

@@ -3,7 +3,6 @@ ghost use mathlib.Core.Path.{_≡_};
 ghost use Rattle.call.specs.Setup.{filledOf, proceedsOf, setupOf};
 use crate::Call;
 use crate::reply::Reply;
-use crate::reply::barred;
 use crate::reply::heard;
 use asking::nobody_asks;
 use carriage::Seen;
@@ -60,8 +59,8 @@ impl Call {
     {
         let phase = self.phase;
         let ranged = reference_fits(reference) & rights_fit(rights);
-        let bar = barred(self, is_fresh(phase), ranged);
         let seen = look(element, rights.limit);
-        heard(self, bar, proceeds(reference, rights, requests, seen))
+        let reply = proceeds(reference, rights, requests, seen);
+        heard(self, is_fresh(phase), ranged, reply)
     }
 }

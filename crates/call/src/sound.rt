@@ -1,6 +1,6 @@
 // A fresh record, whether a record is live, and whether a live record is sound.
 ghost use mathlib.Core.Path.{_≡_};
-ghost use Rattle.call.specs.Sound.{fieldsFitOf, inPhaseOf, freshCall, soundOf};
+ghost use Rattle.call.specs.Sound.{inPhaseOf, freshCall, soundOf};
 ghost use Rattle.phases.specs.Phase.{liveOf};
 use crate::Call;
 use asking::nobody_asks;
@@ -10,14 +10,6 @@ use phases::Phase;
 use phases::is_live;
 use rights::no_rights;
 use standing::no_services;
-
-fn fields_fit(c: Call) -> bool
-    ensures { λ r. ⌜ r ≡ fieldsFitOf c ⌝ }
-{
-    let rights = c.rights;
-    let meters = c.meters;
-    ranges_fit(c.reference, rights, meters)
-}
 
 // The record keeps what it had: only its phase changes.
 pub(crate) fn in_phase(c: Call, p: Phase) -> Call
@@ -61,6 +53,12 @@ impl Call {
     pub fn sound(self) -> bool
         ensures { λ r. ⌜ r ≡ soundOf self ⌝ }
     {
-        if self.live() { fields_fit(self) } else { true }
+        let rights = self.rights;
+        let meters = self.meters;
+        if self.live() {
+            ranges_fit(self.reference, rights, meters)
+        } else {
+            true
+        }
     }
 }

@@ -4,7 +4,6 @@ ghost use Rattle.call.specs.Tick.{passesTickOf, tickOf};
 use crate::Call;
 use crate::information::with_meters;
 use crate::reply::Reply;
-use crate::reply::barred;
 use crate::reply::heard;
 use carriage::Note;
 use numbers::Answer;
@@ -39,7 +38,6 @@ impl Call {
         ensures { λ r. ⌜ r ≡ tickOf self ⌝ }
     {
         let phase = self.phase;
-        let bar = barred(self, is_live(phase), true);
-        heard(self, bar, passes_tick(self))
+        heard(self, is_live(phase), true, passes_tick(self))
     }
 }

@@ -1,13 +1,26 @@
 use Rattle.call.specs.Answering.{goesOnOf}
+use Rattle.call.specs.Answering.{answeredCallOf}
 use borrow.Author.Needs.{needs}
 use Rattle.call.proofs.answering.goes_on.Statement.{statement}
 use Rattle.call.proofs.answering.goes_on.Tie as tie
+use Rattle.call.proofs.answering.goes_on.Reads as reads
+use Rattle.call.proofs.answering.goes_on.Lts as lts
+use Rattle.carriage.proofs.goes_out.Reads as goes-out-reads
+use Rattle.carriage.proofs.noted.Reads as noted-reads
+use Rattle.consequences.proofs.settles.Reads as settles-reads
+use Rattle.consequences.proofs.tells.Reads as tells-reads
+use Rattle.meters.proofs.in_force_after.Reads as in-force-after-reads
+use Rattle.sent.proofs.saying.Reads as saying-reads
+use Rattle.standing.proofs.in_force.Reads as in-force-reads
 
-answered-call-requires : tie.Need-answered-call-requires
-answered-call-requires c κs = search needs
+settles-requires : tie.Need-settles-requires
+settles-requires c κs = search needs
 
 in-force-requires : tie.Need-in-force-requires
 in-force-requires c κs = search needs
+
+in-force-after-requires : tie.Need-in-force-after-requires
+in-force-after-requires c κs = search needs
 
 noted-requires : tie.Need-noted-requires
 noted-requires c κs = search needs
@@ -22,15 +35,16 @@ saying-requires : tie.Need-saying-requires
 saying-requires c κs = search needs
 
 returns : tie.Need-returns
-unfolding goesOnOf
-returns c = simp (c .saying .ensures, c .before .goes-out .ensures, c .before .before .tells .ensures, c .before .before .before .noted .ensures, c .before .before .before .before .in-force .ensures, c .before .before .before .before .before .before .answered-call .ensures)
+unfolding goesOnOf answeredCallOf
+returns c = simp (c .saying .ensures, c .before .goes-out .ensures, c .before .before .tells .ensures, c .before .before .before .noted .ensures, c .before .before .before .before .in-force-after .ensures, c .before .before .before .before .before .in-force .ensures, c .before .before .before .before .before .before .settles .ensures)
 
 pub goes-on-spec : {M : Type 1} → statement M
 goes-on-spec =
     tie.close
     (tie.spec
-    answered-call-requires
+    settles-requires
     in-force-requires
+    in-force-after-requires
     noted-requires
     tells-requires
     goes-out-requires

@@ -1,7 +1,17 @@
 use Rattle.call.specs.Disconnect.{passedOnOf}
+use Rattle.call.specs.Disconnect.{closedCallOf}
 use borrow.Author.Needs.{needs}
 use Rattle.call.proofs.disconnect.passed_on.Statement.{statement}
 use Rattle.call.proofs.disconnect.passed_on.Tie as tie
+use Rattle.call.proofs.disconnect.passed_on.Reads as reads
+use Rattle.call.proofs.disconnect.passed_on.Lts as lts
+use Rattle.call.proofs.reply.reply_to.Reads as reply-to-reads
+use Rattle.carriage.proofs.goes_out.Reads as goes-out-reads
+use Rattle.carriage.proofs.noted.Reads as noted-reads
+use Rattle.closing.proofs.closing_facilities.Reads as closing-facilities-reads
+use Rattle.closing.proofs.closing_standing.Reads as closing-standing-reads
+use Rattle.sent.proofs.saying.Reads as saying-reads
+use Rattle.standing.proofs.in_force.Reads as in-force-reads
 
 closing-standing-requires : tie.Need-closing-standing-requires
 closing-standing-requires c κs = search needs
@@ -18,9 +28,6 @@ goes-out-requires c κs = search needs
 saying-requires : tie.Need-saying-requires
 saying-requires c κs = search needs
 
-closed-call-requires : tie.Need-closed-call-requires
-closed-call-requires c κs = search needs
-
 noted-requires : tie.Need-noted-requires
 noted-requires c κs = search needs
 
@@ -28,8 +35,8 @@ reply-to-requires : tie.Need-reply-to-requires
 reply-to-requires c κs = search needs
 
 returns : tie.Need-returns
-unfolding passedOnOf
-returns c = simp (c .reply-to .ensures, c .before .noted .ensures, c .before .before .closed-call .ensures, c .before .before .before .saying .ensures, c .before .before .before .before .goes-out .ensures, c .before .before .before .before .before .closing-facilities .ensures, c .before .before .before .before .before .before .in-force .ensures, c .before .before .before .before .before .before .before .closing-standing .ensures)
+unfolding passedOnOf closedCallOf
+returns c = simp (c .reply-to .ensures, c .before .noted .ensures, c .before .before .saying .ensures, c .before .before .before .goes-out .ensures, c .before .before .before .before .closing-facilities .ensures, c .before .before .before .before .before .in-force .ensures, c .before .before .before .before .before .before .closing-standing .ensures)
 
 pub passed-on-spec : {M : Type 1} → statement M
 passed-on-spec =
@@ -40,7 +47,6 @@ passed-on-spec =
     closing-facilities-requires
     goes-out-requires
     saying-requires
-    closed-call-requires
     noted-requires
     reply-to-requires
     returns)

@@ -1,4 +1,5 @@
 use Rattle.call.specs.Information.{carriedOf}
+use Rattle.call.specs.Information.{informationPassageOf}
 use borrow.Author.Needs.{needs}
 use Rattle.call.proofs.information.carried.Statement.{statement}
 use Rattle.call.proofs.information.carried.Tie as tie
@@ -6,10 +7,25 @@ use Rattle.call.proofs.information.carried.Reads as reads
 use Rattle.call.proofs.information.carried.Lts as lts
 use Rattle.call.proofs.information.with_meters.Reads as with-meters-reads
 use Rattle.call.proofs.reply.reply_to.Reads as reply-to-reads
+use Rattle.meters.proofs.meter_of.Reads as meter-of-reads
 use Rattle.meters.proofs.spent.Reads as spent-reads
 use Rattle.passing.proofs.passage_answer.Reads as passage-answer-reads
 use Rattle.passing.proofs.to_receiver.Reads as to-receiver-reads
 use Rattle.passing.proofs.to_sender.Reads as to-sender-reads
+use Rattle.serving.proofs.served.Reads as served-reads
+use Rattle.standing.proofs.in_force.Reads as in-force-reads
+
+meter-of-requires : tie.Need-meter-of-requires
+meter-of-requires c κs = search needs
+
+in-force-requires : tie.Need-in-force-requires
+in-force-requires c κs = search needs
+
+in-force-requires-2 : tie.Need-in-force-requires-2
+in-force-requires-2 c κs = search needs
+
+served-requires : tie.Need-served-requires
+served-requires c κs = search needs
 
 spent-requires : tie.Need-spent-requires
 spent-requires c κs = search needs
@@ -30,13 +46,17 @@ reply-to-requires : tie.Need-reply-to-requires
 reply-to-requires c κs = search needs
 
 returns : tie.Need-returns
-unfolding carriedOf
-returns c = simp (c .reply-to .ensures, c .before .to-receiver .ensures, c .before .before .to-sender .ensures, c .before .before .before .passage-answer .ensures, c .before .before .before .before .with-meters .ensures, c .before .before .before .before .before .spent .ensures)
+unfolding carriedOf informationPassageOf
+returns c = simp (c .reply-to .ensures, c .before .to-receiver .ensures, c .before .before .to-sender .ensures, c .before .before .before .passage-answer .ensures, c .before .before .before .before .with-meters .ensures, c .before .before .before .before .before .spent .ensures, c .before .before .before .before .before .before .served .ensures, c .before .before .before .before .before .before .before .in-force2 .ensures, c .before .before .before .before .before .before .before .before .in-force .ensures, c .before .before .before .before .before .before .before .before .before .meter-of .ensures)
 
 pub carried-spec : {M : Type 1} → statement M
 carried-spec =
     tie.close
     (tie.spec
+    meter-of-requires
+    in-force-requires
+    in-force-requires-2
+    served-requires
     spent-requires
     with-meters-requires
     passage-answer-requires

@@ -1,0 +1,49 @@
+use Rattle.call.specs.Answering.{answeredOf}
+use borrow.Author.Needs.{needs}
+use Rattle.call.proofs.answering.answered.Statement.{statement}
+use Rattle.call.proofs.answering.answered.Tie as tie
+use Rattle.call.proofs.answering.answered.Reads as reads
+use Rattle.call.proofs.answering.answered.Lts as lts
+use Rattle.call.proofs.answering.clears.Reads as clears-reads
+use Rattle.call.proofs.answering.goes_on.Reads as goes-on-reads
+use Rattle.carriage.proofs.look.Reads as look-reads
+use Rattle.consequences.proofs.failed.Reads as failed-reads
+
+look-requires : tie.Need-look-requires
+look-requires c κs = search needs
+
+failed-requires : tie.Need-failed-requires
+failed-requires c κs = search needs
+
+enum-told : tie.Need-enum-told
+enum-told c = search needs
+
+goes-on-requires : tie.Need-goes-on-requires
+goes-on-requires c κs = search needs
+
+enum-known-n : tie.Need-enum-known-n
+enum-known-n c = search needs
+
+clears-requires : tie.Need-clears-requires
+clears-requires c κs = search needs
+
+returns : tie.Need-returns
+unfolding answeredOf
+returns c = simp (c .goes-on .ensures, c .before .enum-told .given .1, ← (c .before .before .before .failed .ensures), c .before .before .before .before .look .ensures)
+
+returns-2 : tie.Need-returns-2
+unfolding answeredOf
+returns-2 c = simp (c .clears .ensures, c .before .before .n .given .1, ← (c .before .before .before .before .failed .ensures), c .before .before .before .before .before .look .ensures)
+
+pub answered-spec : {M : Type 1} → statement M
+answered-spec =
+    tie.close
+    (tie.spec
+    look-requires
+    failed-requires
+    enum-told
+    goes-on-requires
+    enum-known-n
+    clears-requires
+    returns
+    returns-2)
