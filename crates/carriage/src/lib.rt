@@ -1,6 +1,6 @@
 // The user-user element of an event: what it is seen to be, its note, and whether it goes out.
 ghost use mathlib.Core.Path.{_≡_};
-ghost use Rattle.carriage.specs.Element.{noteNumberOf, wellFormedOf, seenOf, wholeOf, notedOf, goesOutOf};
+ghost use Rattle.carriage.specs.Element.{wellFormedOf, seenOf, wholeOf, notedOf, goesOutOf};
 
 // An element shorter than this holds nothing.
 pub const LEAST_ELEMENT: usize = 3;
@@ -19,17 +19,6 @@ pub enum Note {
     Malformed,
     TooLong,
     NotCarried,
-}
-
-pub fn note_number(n: Note) -> u8
-    ensures { λ r. ⌜ r ≡ noteNumberOf n ⌝ }
-{
-    match n {
-        Note::Clear => 0,
-        Note::Malformed => 1,
-        Note::TooLong => 2,
-        Note::NotCarried => 3,
-    }
 }
 
 fn wide(x: u8) -> usize

@@ -17,13 +17,13 @@ use Rattle.meter.specs.Meter.{emptyOf, meterFitsOf, grantedOf, refilledOf, tick
 use Rattle.passage.specs.Passage.{countedOf, spentOf, markedOf, underThreeOf, passageOf}
 use Rattle.carriage.specs.Element.{wellFormedOf, seenOf, goesOutOf}
 use Rattle.rights.specs.Rights.{rightsFitOf, referenceFitsOf, noRights}
-use Rattle.standing.specs.Standing.{remainsOf, silence, silentAnswers, noServices}
+use Rattle.standing.specs.Standing.{remainsOf, noServices}
 use Rattle.requests.specs.Requests.{firstStandingOf, standingsOf, lacksOf, passedRequestsOf, networkRefusalsOf, setupPhaseOf, toCallerOf, toCalledOf, setupCarriesOf}
 use Rattle.fates.specs.Fates.{alertingFatesOf, connectFatesOf}
 use Rattle.consequences.specs.Consequences.{failedOf, settlesOf, tellsOf, declinesOf}
 use Rattle.asking.specs.Asking.{nobodyAsks, toRequestOf, toAnswerOf}
 use Rattle.telling.specs.Telling.{aboutThreeOf}
-use Rattle.sent.specs.Message.{sayingOf, bareOf, congestionOf, informsOf, onlyIfOf}
+use Rattle.sent.specs.Message.{silence, sayingOf, bareOf, congestionOf, informsOf, onlyIfOf}
 use Rattle.meters.specs.Meters.{emptyMeters, grantsOf}
 use Rattle.ticking.specs.Ticking.{tickedMetersOf, refillsOf, readyOf}
 use Rattle.call.specs.Sound.{freshCall, fieldsFitOf, soundOf, inPhaseOf}
@@ -31,7 +31,7 @@ use Rattle.call.specs.Reply.{barOf, refusedOf, heardOf, replyOf}
 use Rattle.call.specs.Setup.{filledOf, proceedsOf, setupOf}
 use Rattle.call.specs.Answering.{answeredCallOf, goesOnOf, clearsOf, answeredOf, alertingOf, connectOf}
 use Rattle.call.specs.Information.{metersOf, informationPassageOf, carriedOf, withElementOf, informationOf}
-use Rattle.closing.specs.Closing.{closingFacilitiesOf}
+use Rattle.closing.specs.Closing.{silentAnswers, closingFacilitiesOf}
 use Rattle.call.specs.Disconnect.{closedCallOf, passedOnOf, disconnectOf}
 use Rattle.call.specs.Facility.{facilityVerdictOf, facilityCallOf, passesFacilityOf, facilityOf}
 use Rattle.call.specs.Tick.{runsOf, passesTickOf, tickOf}

@@ -6,7 +6,7 @@ use Rattle.standing.specs.declared.Given.{Given}
 use Rattle.standing.specs.declared.Said.{Said}
 use Rattle.standing.specs.declared.Standing.{Standing}
 use Rattle.standing.specs.declared.Standings.{Standings}
-use Rattle.standing.specs.Standing.{awaitsOf, silentAnswers}
+use Rattle.standing.specs.Standing.{awaitsOf}
 use Rattle.sides.specs.declared.Side.{Side}
 
 -- "rejections of the caller's open requests go on too"
@@ -25,6 +25,10 @@ abbrev pub closingStandingOf : Standing → Given → Standing
 closingStandingOf s Given.Silent = s
 closingStandingOf s Given.Accepted = cond (awaitsOf s) Standing.InForce s
 closingStandingOf s Given.Rejected = s
+
+-- no service is answered
+unfoldable pub silentAnswers : Answers
+silentAnswers = record { one = Given.Silent; two = Given.Silent; three = Given.Silent }
 
 -- "From the called side": the calling side's answers count for nothing
 abbrev pub heardAnswersOf : Side → Answers → Answers

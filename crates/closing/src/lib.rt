@@ -9,7 +9,13 @@ use standing::Said;
 use standing::Standing;
 use standing::Standings;
 use standing::awaits;
-use standing::no_answers;
+
+// No service is answered.
+const NO_ANSWERS: Answers = Answers {
+    one: Given::Silent,
+    two: Given::Silent,
+    three: Given::Silent,
+};
 
 // What the called side's DISCONNECT says of a service, where `waits` says whether the caller's request is open.
 fn rejection(waits: bool, g: Given) -> Said
@@ -60,7 +66,7 @@ pub fn heard_answers(side: Side, a: Answers) -> Answers
     ensures { λ r. ⌜ r ≡ heardAnswersOf side a ⌝ }
 {
     match side {
-        Side::Calling => no_answers(),
+        Side::Calling => NO_ANSWERS,
         Side::Called => a,
     }
 }

@@ -27,11 +27,11 @@ use Rattle.events.specs.declared.Event.{Event}
 use Rattle.call.specs.declared.reply.Reply.{Reply}
 use Rattle.carriage.specs.Element.{wholeOf, seenOf}
 use Rattle.rights.specs.Rights.{hasOf}
-use Rattle.standing.specs.Standing.{inForceOf, silentAnswers, noServices}
+use Rattle.standing.specs.Standing.{inForceOf, noServices}
 use Rattle.requests.specs.Requests.{askedStandingOf, firstStandingOf, standingsOf}
 use Rattle.fates.specs.Fates.{decidedOf, alertingFatesOf, connectFatesOf}
 use Rattle.consequences.specs.Consequences.{settledOf, failedOf}
-use Rattle.closing.specs.Closing.{closingStandingOf, heardAnswersOf}
+use Rattle.closing.specs.Closing.{silentAnswers, closingStandingOf, heardAnswersOf}
 use Rattle.numbers.specs.Answer.{numberOf, takenOf}
 use Rattle.asking.specs.Asking.{nobodyAsks, asksOf, mayAskOf, toRequestOf, toAnswerOf}
 use Rattle.sides.specs.Side.{peerOf}

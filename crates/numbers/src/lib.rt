@@ -1,6 +1,6 @@
-// What an event is answered, and the number of each answer.
+// What an event is answered.
 ghost use mathlib.Core.Path.{_≡_};
-ghost use Rattle.numbers.specs.Answer.{numberOf, takenOf, firstBar};
+ghost use Rattle.numbers.specs.Answer.{takenOf, firstBar};
 
 pub enum Answer {
     Taken,
@@ -14,24 +14,6 @@ pub enum Answer {
     AskedRequired,
     OutOfRange,
     Unsound,
-}
-
-pub fn number(a: Answer) -> u8
-    ensures { λ r. ⌜ r ≡ numberOf a ⌝ }
-{
-    match a {
-        Answer::Taken => 0,
-        Answer::OutOfPhase => 11,
-        Answer::NotAnEvent => 12,
-        Answer::NoService => 13,
-        Answer::Spent => 14,
-        Answer::NotOpen => 15,
-        Answer::NotGranted => 16,
-        Answer::BadElement => 17,
-        Answer::AskedRequired => 18,
-        Answer::OutOfRange => 24,
-        Answer::Unsound => 25,
-    }
 }
 
 pub fn taken(a: Answer) -> bool

@@ -32,11 +32,11 @@ use Rattle.call.specs.declared.reply.Reply.{Reply}
 use Rattle.causes.specs.Cause.{firstOf}
 use Rattle.carriage.specs.Element.{noteNumberOf, seenOf, notedOf}
 use Rattle.rights.specs.Rights.{hasOf}
-use Rattle.standing.specs.Standing.{inForceOf, awaitsOf, remainsOf, silentAnswers}
+use Rattle.standing.specs.Standing.{inForceOf, awaitsOf, remainsOf}
 use Rattle.requests.specs.Requests.{firstStandingOf, standingsOf, lackingOf, lacksOf, setupCarriesOf}
 use Rattle.fates.specs.Fates.{decidedOf, alertingFatesOf, connectFatesOf}
 use Rattle.consequences.specs.Consequences.{settledOf, settlesOf, failureOf, failedOf}
-use Rattle.closing.specs.Closing.{closingStandingOf, heardAnswersOf}
+use Rattle.closing.specs.Closing.{silentAnswers, closingStandingOf, heardAnswersOf}
 use Rattle.numbers.specs.Answer.{numberOf}
 use Rattle.phases.specs.Phase.{requestedOf}
 use Rattle.passing.specs.Passing.{passageAnswerOf}

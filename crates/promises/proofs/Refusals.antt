@@ -23,11 +23,10 @@ use Rattle.call.specs.declared.reply.Reply.{Reply}
 use Rattle.passage.specs.Passage.{markedOf, underThreeOf, passageOf, afterOf}
 use Rattle.carriage.specs.Element.{wholeOf}
 use Rattle.consequences.specs.Consequences.{failedOf}
-use Rattle.standing.specs.Standing.{silence}
 use Rattle.numbers.specs.Answer.{numberOf, takenOf}
 use Rattle.asking.specs.Asking.{toRequestOf, toAnswerOf}
 use Rattle.telling.specs.Telling.{notGrantedOf, aboutThreeOf}
-use Rattle.sent.specs.Message.{sayingOf, congestionOf, onlyIfOf}
+use Rattle.sent.specs.Message.{silence, sayingOf, congestionOf, onlyIfOf}
 use Rattle.passing.specs.Passing.{passageAnswerOf, passesOf, marksOf}
 use Rattle.call.specs.Answering.{goesOnOf, clearsOf, outcomeOf, answeredOf, alertingOf, connectOf}
 use Rattle.call.specs.Disconnect.{passedOnOf, disconnectOf, endsOf, releaseCompleteOf}

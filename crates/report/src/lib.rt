@@ -11,13 +11,13 @@ ghost use Rattle.text.specs.Columns.{column};
 ghost use Rattle.report.specs.Line.{typeColumn, saidColumns, numberColumns, typeColumns, lineOf};
 use body::kind::Kind;
 use carriage::Note;
-use carriage::note_number;
 use items::write_sent;
+use numerals::kind_number;
+use numerals::note_number;
 use room::Wrote;
 use room::end_of;
 use room::write_octets;
 use sent::Sent;
-use sent::kind_number;
 use text::decimal::write_decimal;
 use text::hex::write_hex;
 

@@ -3,10 +3,10 @@ use Prim.Native.Nat.{ℕ}
 use mathlib.Core.Bool.{Bool, true, false, cond}
 use Rattle.causes.specs.declared.Cause.{Cause}
 use Rattle.standing.specs.declared.Facilities.{Facilities}
+use Rattle.standing.specs.declared.Said.{Said}
 use Rattle.sent.specs.declared.Kind.{Kind}
 use Rattle.sent.specs.declared.Level.{Level}
 use Rattle.sent.specs.declared.Sent.{Sent}
-use Rattle.standing.specs.Standing.{silence}
 use Rattle.causes.specs.Cause.{discarded}
 
 -- "Nine types, hexadecimal: ALERTING 01, CALL PROCEEDING 02, SETUP 05, CONNECT 07, USER INFORMATION 20, DISCONNECT 45, RELEASE COMPLETE 5A,
@@ -21,6 +21,10 @@ kindNumberOf Kind.Disconnect = 69
 kindNumberOf Kind.ReleaseComplete = 90
 kindNumberOf Kind.Facility = 98
 kindNumberOf Kind.CongestionControl = 121
+
+-- nothing is said of any service
+unfoldable pub silence : Facilities
+silence = record { one = Said.Nothing; two = Said.Nothing; three = Said.Nothing }
 
 -- a message with what it says of the services, and whether the event's element goes out in it
 unfoldable pub sayingOf : Kind → Cause → Facilities → Bool → Sent

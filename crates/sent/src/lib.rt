@@ -1,10 +1,17 @@
 // A message to one user.
 ghost use mathlib.Core.Path.{_≡_};
-ghost use Rattle.sent.specs.Message.{kindNumberOf, sayingOf, bareOf, congestionOf, informsOf, onlyIfOf};
+ghost use Rattle.sent.specs.Message.{sayingOf, bareOf, congestionOf, informsOf, onlyIfOf};
 use causes::Cause;
 use causes::DISCARDED;
 use standing::Facilities;
-use standing::say_nothing;
+use standing::Said;
+
+// Nothing is said of any service.
+const SILENCE: Facilities = Facilities {
+    one: Said::Nothing,
+    two: Said::Nothing,
+    three: Said::Nothing,
+};
 
 pub enum Kind {
     Alerting,
@@ -39,23 +46,6 @@ pub enum Sent {
     Present(Message),
 }
 
-// The octet of a message type.
-pub fn kind_number(k: Kind) -> u8
-    ensures { λ r. ⌜ r ≡ kindNumberOf k ⌝ }
-{
-    match k {
-        Kind::Alerting => 0x01,
-        Kind::CallProceeding => 0x02,
-        Kind::Setup => 0x05,
-        Kind::Connect => 0x07,
-        Kind::UserInformation => 0x20,
-        Kind::Disconnect => 0x45,
-        Kind::ReleaseComplete => 0x5A,
-        Kind::Facility => 0x62,
-        Kind::CongestionControl => 0x79,
-    }
-}
-
 pub fn saying(kind: Kind, cause: Cause, said: Facilities, element: bool) -> Sent
     ensures { λ r. ⌜ r ≡ sayingOf kind cause said element ⌝ }
 {
@@ -73,7 +63,7 @@ pub fn saying(kind: Kind, cause: Cause, said: Facilities, element: bool) -> Sent
 pub fn bare(kind: Kind, cause: Cause) -> Sent
     ensures { λ r. ⌜ r ≡ bareOf kind cause ⌝ }
 {
-    saying(kind, cause, say_nothing(), false)
+    saying(kind, cause, SILENCE, false)
 }
 
 // CONGESTION CONTROL, ready or not ready: both with the same cause.
@@ -84,7 +74,7 @@ pub fn congestion(level: Level) -> Sent
         kind: Kind::CongestionControl,
         cause: Cause::Value(DISCARDED),
         level: level,
-        said: say_nothing(),
+        said: SILENCE,
         more: false,
         element: false,
     })
@@ -98,7 +88,7 @@ pub fn informs(more: bool) -> Sent
         kind: Kind::UserInformation,
         cause: Cause::Absent,
         level: Level::Absent,
-        said: say_nothing(),
+        said: SILENCE,
         more: more,
         element: true,
     })

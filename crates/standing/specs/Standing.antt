@@ -1,9 +1,5 @@
 -- What was asked for of each service, what was answered, how it stands, and what a message says of it.
 use mathlib.Core.Bool.{Bool, true, false, _||_}
-use Rattle.standing.specs.declared.Answers.{Answers}
-use Rattle.standing.specs.declared.Facilities.{Facilities}
-use Rattle.standing.specs.declared.Given.{Given}
-use Rattle.standing.specs.declared.Said.{Said}
 use Rattle.standing.specs.declared.Standing.{Standing}
 use Rattle.standing.specs.declared.Standings.{Standings}
 
@@ -25,12 +21,6 @@ awaitsOf Standing.Closed = false
 -- "the element (if service 1 remains)": it is asked for, or implied, and the rights have it
 unfoldable pub remainsOf : Standing → Bool
 remainsOf s = inForceOf s || awaitsOf s
-
-unfoldable pub silence : Facilities
-silence = record { one = Said.Nothing; two = Said.Nothing; three = Said.Nothing }
-
-unfoldable pub silentAnswers : Answers
-silentAnswers = record { one = Given.Silent; two = Given.Silent; three = Given.Silent }
 
 unfoldable pub noServices : Standings
 noServices = record { one = Standing.Unasked; two = Standing.Unasked; three = Standing.Unasked }

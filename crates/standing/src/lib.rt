@@ -1,6 +1,6 @@
 // What was asked for of each service, what was answered, how the service stands, and what is said of it to a user.
 ghost use mathlib.Core.Path.{_≡_};
-ghost use Rattle.standing.specs.Standing.{inForceOf, awaitsOf, remainsOf, silence, silentAnswers, noServices};
+ghost use Rattle.standing.specs.Standing.{inForceOf, awaitsOf, remainsOf, noServices};
 
 // What SETUP says of a service.
 pub enum Request {
@@ -90,26 +90,6 @@ pub fn remains(s: Standing) -> bool
     ensures { λ r. ⌜ r ≡ remainsOf s ⌝ }
 {
     in_force(s) | awaits(s)
-}
-
-pub fn say_nothing() -> Facilities
-    ensures { λ r. ⌜ r ≡ silence ⌝ }
-{
-    Facilities {
-        one: Said::Nothing,
-        two: Said::Nothing,
-        three: Said::Nothing,
-    }
-}
-
-pub fn no_answers() -> Answers
-    ensures { λ r. ⌜ r ≡ silentAnswers ⌝ }
-{
-    Answers {
-        one: Given::Silent,
-        two: Given::Silent,
-        three: Given::Silent,
-    }
 }
 
 pub fn no_services() -> Standings

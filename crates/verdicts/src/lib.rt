@@ -2,7 +2,7 @@
 ghost use mathlib.Core.Path.{_≡_};
 ghost use Rattle.verdicts.specs.Verdict.{verdictNumber};
 use numbers::Answer;
-use numbers::number;
+use numerals::number;
 
 // Heard: an answer that a call gives too. The others only a table gives.
 pub enum Verdict {
