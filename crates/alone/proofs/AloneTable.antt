@@ -17,7 +17,7 @@ use Rattle.events.specs.declared.Event.{Event}
 use Rattle.call.specs.Sound.{freshCall}
 use Rattle.choosing.specs.declared.choice.Choice.{Choice}
 use Rattle.verdicts.specs.declared.Verdict.{Verdict}
-use Rattle.looking.specs.declared.Found.{Found}
+use Rattle.choosing.specs.declared.choice.Found.{Found}
 use Rattle.looking.specs.Look.{liveAs, isAt}
 use Rattle.table.specs.Table.{findFrom, placeFrom, heldIn, tableSound}
 use Rattle.chosen.specs.Chosen.{chosenOf}

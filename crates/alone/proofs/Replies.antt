@@ -16,7 +16,7 @@ use Rattle.call.specs.Step.{stepOf}
 use Rattle.choosing.specs.declared.choice.Choice.{Choice}
 use Rattle.verdicts.specs.declared.Verdict.{Verdict}
 use Rattle.choosing.specs.declared.choice.Wanted.{Wanted}
-use Rattle.looking.specs.declared.Found.{Found}
+use Rattle.choosing.specs.declared.choice.Found.{Found}
 use Rattle.choosing.specs.Choice.{wantedOf, ownOr, isNew, referenceOf, opensOf, rangedOf, chooseOf}
 use Rattle.settling.specs.Settle.{subjectOf, keptOf, outcomeOf, refusalOf, settledOf}
 use Rattle.table.specs.Table.{tableSound, findFrom, placeFrom}

@@ -7,7 +7,7 @@ use Rattle.events.specs.declared.Event.{Event}
 use Rattle.verdicts.specs.declared.Verdict.{Verdict}
 use Rattle.choosing.specs.declared.choice.Choice.{Choice}
 use Rattle.choosing.specs.declared.choice.Wanted.{Wanted}
-use Rattle.looking.specs.declared.Found.{Found}
+use Rattle.choosing.specs.declared.choice.Found.{Found}
 
 -- what an event wants of the table: SETUP a place under its own reference, with "reference or rights out of range" or not; others that of a live call
 abbrev pub wantedOf : Event → Wanted

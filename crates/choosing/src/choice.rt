@@ -2,11 +2,16 @@
 ghost use mathlib.Core.Path.{_≡_};
 ghost use Rattle.choosing.specs.Choice.{wantedOf, referenceOf, opensOf, rangedOf, newPlaceOf, oldPlaceOf, chooseOf};
 use events::Event;
-use looking::Found;
 use numbers::Answer;
 use rights::reference_fits;
 use rights::rights_fit;
 use verdicts::Verdict;
+
+// The place of a record, or that there is none.
+pub enum Found {
+    At(usize),
+    Nothing,
+}
 
 pub enum Choice {
     At(usize),

@@ -3,14 +3,14 @@
 use asking::What;
 use call::Call;
 use call::reply::Reply;
-use numerals::note_number;
 use causes::Cause;
 use events::Event;
 use libc::STDOUT_FILENO;
+use numerals::kind_number;
+use numerals::note_number;
 use numerals::number;
 use rights::Rights;
 use sent::Sent;
-use numerals::kind_number;
 use sides::Side;
 use standing::Answers;
 use standing::Given;

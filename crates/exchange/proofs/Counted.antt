@@ -16,7 +16,7 @@ use Rattle.call.specs.Sound.{freshCall, soundOf, fieldsFitOf}
 use Rattle.looking.specs.Look.{liveAs, isAt}
 use Rattle.table.specs.Table.{findFrom, placeFrom, heldIn, callsSound, tableSound}
 use Rattle.exchange.specs.Promises.{Free, LiveAt, Held, Full, Faulty, over, twins, unsound, heldCall, Lowest}
-use Rattle.looking.specs.declared.Found.{Found}
+use Rattle.choosing.specs.declared.choice.Found.{Found}
 use Rattle.ranges.specs.Ranges.{InRangeCall}
 use Rattle.ranges.proofs.Ranges.{fields-range}
 use Rattle.table.proofs.Searched.{at-held}

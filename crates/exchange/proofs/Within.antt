@@ -13,7 +13,7 @@ use Rattle.looking.specs.Look.{liveAs, freeOf}
 use Rattle.table.specs.Table.{findFrom, placeFrom, tableSound}
 use Rattle.chosen.specs.Chosen.{chosenOf}
 use Rattle.choosing.specs.Choice.{referenceOf, opensOf, rangedOf, newPlaceOf, oldPlaceOf, chooseOf}
-use Rattle.looking.specs.declared.Found.{Found}
+use Rattle.choosing.specs.declared.choice.Found.{Found}
 use Rattle.choosing.specs.declared.choice.Choice.{Choice}
 use Rattle.verdicts.specs.declared.Verdict.{Verdict}
 

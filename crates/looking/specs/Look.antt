@@ -5,7 +5,7 @@ use lib.Dec.{eqb}
 use Rattle.call.specs.declared.Call.{Call}
 use Rattle.call.specs.Sound.{soundOf}
 use Rattle.phases.specs.Phase.{liveOf}
-use Rattle.looking.specs.declared.Found.{Found}
+use Rattle.choosing.specs.declared.choice.Found.{Found}
 
 -- a live record of the reference n
 abbrev pub liveAs : Call → ℕ → Bool

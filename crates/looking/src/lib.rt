@@ -2,12 +2,7 @@
 ghost use mathlib.Core.Path.{_≡_};
 ghost use Rattle.looking.specs.Look.{liveAs, freeOf, isAt, faultOf, laterOf};
 use call::Call;
-
-// The place of a record, or that there is none.
-pub enum Found {
-    At(usize),
-    Nothing,
-}
+use choosing::choice::Found;
 
 pub fn is_live_as(c: Call, reference: u16) -> bool
     ensures { λ r. ⌜ r ≡ liveAs c reference ⌝ }

@@ -11,7 +11,7 @@ use Rattle.call.specs.Sound.{freshCall, soundOf}
 use Rattle.phases.specs.Phase.{liveOf}
 use Rattle.looking.specs.Look.{liveAs, isAt, laterOf, faultOf}
 use Rattle.table.specs.Table.{findFrom, heldIn, callsSound}
-use Rattle.looking.specs.declared.Found.{Found}
+use Rattle.choosing.specs.declared.choice.Found.{Found}
 use Rattle.table.proofs.Along.{one-more, dropped}
 
 -- a record is found exactly if there is one

@@ -7,7 +7,7 @@ use lib.ListN.{length}
 use Rattle.call.specs.declared.Call.{Call}
 use Rattle.call.specs.Sound.{soundOf}
 use Rattle.phases.specs.Phase.{liveOf}
-use Rattle.looking.specs.declared.Found.{Found}
+use Rattle.choosing.specs.declared.choice.Found.{Found}
 use Rattle.looking.specs.Look.{liveAs, freeOf}
 
 -- "a lent table of at most 32 records"

@@ -4,7 +4,7 @@ ghost use lib.ListN.{getD, drop};
 ghost use Rattle.call.specs.Sound.{freshCall};
 ghost use Rattle.table.specs.Table.{findFrom, placeFrom, callsSound, tableSound};
 use call::Call;
-use looking::Found;
+use choosing::choice::Found;
 use looking::at_fault;
 use looking::is_free;
 use looking::is_live_as;

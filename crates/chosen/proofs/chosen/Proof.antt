@@ -43,12 +43,12 @@ use Rattle.events.proofs.Event.Laws as E′
 use Rattle.table.specs.Table.{tableSound, findFrom, placeFrom}
 use Rattle.chosen.specs.Chosen.{chosenOf}
 use Rattle.choosing.specs.Choice.{referenceOf, chooseOf}
-use Rattle.looking.specs.declared.Found.{Found}
+use Rattle.choosing.specs.declared.choice.Found.{Found}
 use Rattle.choosing.specs.declared.choice.Choice.{Choice}
 use Rattle.table.proofs.Ends.{full, forgets, frees-all}
 use Rattle.meter.proofs.Plainly.{pre-plain, calls-told, calls-plain, leaves}
-use Rattle.looking.proofs.Found as U
-use Rattle.looking.proofs.Found.Laws as U′
+use Rattle.choosing.proofs.choice.Found as U
+use Rattle.choosing.proofs.choice.Found.Laws as U′
 use Rattle.choosing.proofs.choice.Choice as R
 use Rattle.choosing.proofs.choice.Choice.Laws as R′
 use Rattle.choosing.proofs.choice.reference_of as g

@@ -52,13 +52,13 @@ use Rattle.call.proofs.Call as T
 use Rattle.call.proofs.Call.Laws as T′
 use Rattle.looking.specs.Look.{laterOf, faultOf}
 use Rattle.table.specs.Table.{findFrom, heldIn, callsSound}
-use Rattle.looking.specs.declared.Found.{Found}
+use Rattle.choosing.specs.declared.choice.Found.{Found}
 use Rattle.table.proofs.Arms.{skips-to}
 use Rattle.table.proofs.Ends.{full, forgets, frees-all}
 use Rattle.meter.proofs.Plainly.{pre-plain, calls-told, calls-plain, leaves}
 use Rattle.table.proofs.Searched.{alone-at, sounds, fault-says, stops, goes-on}
-use Rattle.looking.proofs.Found as U
-use Rattle.looking.proofs.Found.Laws as U′
+use Rattle.choosing.proofs.choice.Found as U
+use Rattle.choosing.proofs.choice.Found.Laws as U′
 use Rattle.table.proofs.call_at as g
 use Rattle.table.proofs.call_at.Symbol as g-def
 use Rattle.table.proofs.call_at.Symbol.{name as #g}

@@ -38,11 +38,11 @@ use denote.Exit.{yes}
 use Rattle.call.specs.declared.Call.{Call}
 use Rattle.call.proofs.Call as T
 use Rattle.table.specs.Table.{findFrom}
-use Rattle.looking.specs.declared.Found.{Found}
+use Rattle.choosing.specs.declared.choice.Found.{Found}
 use Rattle.table.proofs.Ends.{full, forgets, frees-all}
 use Rattle.meter.proofs.Plainly.{calls-told, leaves}
-use Rattle.looking.proofs.Found as U
-use Rattle.looking.proofs.Found.Laws as U′
+use Rattle.choosing.proofs.choice.Found as U
+use Rattle.choosing.proofs.choice.Found.Laws as U′
 use Rattle.table.proofs.find_from as g
 use Rattle.table.proofs.find_from.Symbol as g-def
 use Rattle.table.proofs.find_from.Symbol.{name as #g}

@@ -51,14 +51,14 @@ use Rattle.call.proofs.Call as T
 use Rattle.call.proofs.Call.Laws as T′
 use Rattle.looking.specs.Look.{freeOf}
 use Rattle.table.specs.Table.{placeFrom}
-use Rattle.looking.specs.declared.Found.{Found}
-use Rattle.looking.specs.declared.Found.the-variants.{At, Nothing}
+use Rattle.choosing.specs.declared.choice.Found.{Found}
+use Rattle.choosing.specs.declared.choice.Found.the-variants.{At, Nothing}
 use Rattle.table.proofs.Arms.{skips-to}
 use Rattle.table.proofs.Ends.{full, forgets, frees-all}
 use Rattle.meter.proofs.Plainly.{pre-plain, calls-told, calls-plain, leaves}
 use Rattle.table.proofs.Along.{one-more, dropped}
-use Rattle.looking.proofs.Found as U
-use Rattle.looking.proofs.Found.Laws as U′
+use Rattle.choosing.proofs.choice.Found as U
+use Rattle.choosing.proofs.choice.Found.Laws as U′
 use Rattle.table.proofs.call_at as g
 use Rattle.table.proofs.call_at.Symbol as g-def
 use Rattle.table.proofs.call_at.Symbol.{name as #g}
