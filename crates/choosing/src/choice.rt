@@ -1,6 +1,6 @@
 // Which record an event goes to, or the number that the table gives.
 ghost use mathlib.Core.Path.{_≡_};
-ghost use Rattle.choosing.specs.Choice.{wantedOf, referenceOf, opensOf, rangedOf, newPlaceOf, oldPlaceOf, chooseOf};
+ghost use Rattle.choosing.specs.Choice.{wantedOf, referenceOf, opensOf, newPlaceOf, oldPlaceOf, chooseOf};
 use events::Event;
 use numbers::Answer;
 use rights::reference_fits;
@@ -34,19 +34,7 @@ fn wants(event: Event) -> Wanted
             rights,
             requests,
         } => Wanted::New(reference, reference_fits(reference) & rights_fit(rights)),
-        Event::Alerting { answers } => Wanted::Old,
-        Event::Connect { answers } => Wanted::Old,
-        Event::Information { side, more } => Wanted::Old,
-        Event::Facility { side, what } => Wanted::Old,
-        Event::Disconnect {
-            side,
-            cause,
-            answers,
-        } => Wanted::Old,
-        Event::ReleaseComplete { side } => Wanted::Old,
-        Event::Tick => Wanted::Old,
-        Event::CallProceeding => Wanted::Old,
-        Event::CongestionControl => Wanted::Old,
+        _ => Wanted::Old,
     }
 }
 
@@ -67,16 +55,6 @@ pub fn opens(event: Event) -> bool
     match wants(event) {
         Wanted::New(own, ranged) => true,
         Wanted::Old => false,
-    }
-}
-
-// Whether reference and rights of a SETUP are in range.
-fn ranged(event: Event) -> bool
-    ensures { λ r. ⌜ r ≡ rangedOf event ⌝ }
-{
-    match wants(event) {
-        Wanted::New(own, ranged) => ranged,
-        Wanted::Old => true,
     }
 }
 
@@ -107,14 +85,15 @@ pub fn choose(whole: bool, event: Event, held: Found, free: Found) -> Choice
     ensures { λ r. ⌜ r ≡ chooseOf whole event held free ⌝ }
 {
     if whole {
-        if opens(event) {
-            if ranged(event) {
-                new_place(held, free)
-            } else {
-                Choice::Refused(Verdict::Heard(Answer::OutOfRange))
+        match wants(event) {
+            Wanted::New(own, ranged) => {
+                if ranged {
+                    new_place(held, free)
+                } else {
+                    Choice::Refused(Verdict::Heard(Answer::OutOfRange))
+                }
             }
-        } else {
-            old_place(held)
+            Wanted::Old => old_place(held),
         }
     } else {
         Choice::Refused(Verdict::Heard(Answer::Unsound))

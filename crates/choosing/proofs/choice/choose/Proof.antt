@@ -1,31 +1,41 @@
 use Rattle.choosing.specs.Choice.{chooseOf}
+use Rattle.choosing.specs.Choice.{opensOf}
+use Rattle.choosing.specs.Choice.{rangedOf}
 use borrow.Author.Needs.{needs}
 use Rattle.choosing.proofs.choice.choose.Statement.{statement}
 use Rattle.choosing.proofs.choice.choose.Tie as tie
+use Rattle.choosing.proofs.choice.choose.Reads as reads
+use Rattle.choosing.proofs.choice.choose.Lts as lts
+use Rattle.choosing.proofs.choice.new_place.Reads as new-place-reads
+use Rattle.choosing.proofs.choice.old_place.Reads as old-place-reads
+use Rattle.choosing.proofs.choice.wants.Reads as wants-reads
 
-opens-requires : tie.Need-opens-requires
-opens-requires c κs = search needs
+wants-requires : tie.Need-wants-requires
+wants-requires c κs = search needs
 
-ranged-requires : tie.Need-ranged-requires
-ranged-requires c κs = search needs
+enum-known-own : tie.Need-enum-known-own
+enum-known-own c = search needs
 
 new-place-requires : tie.Need-new-place-requires
 new-place-requires c κs = search needs
+
+enum-told : tie.Need-enum-told
+enum-told c = search needs
 
 old-place-requires : tie.Need-old-place-requires
 old-place-requires c κs = search needs
 
 returns : tie.Need-returns
 unfolding chooseOf
-returns c = simp (c .new-place .ensures, c .before .if3 .taken, ← (c .before .before .ranged .ensures), c .before .before .before .if2 .taken, ← (c .before .before .before .before .opens .ensures), c .before .before .before .before .before .if1 .taken)
+returns c = simp (c .new-place .ensures, c .before .if2 .taken, c .before .before .before .own .given .1, ← (c .before .before .before .before .before .wants .ensures), c .before .before .before .before .before .before .if1 .taken)
 
 returns-2 : tie.Need-returns-2
 unfolding chooseOf
-returns-2 c = simp (c .if3 .left, ← (c .before .ranged .ensures), c .before .before .if2 .taken, ← (c .before .before .before .opens .ensures), c .before .before .before .before .if1 .taken)
+returns-2 c = simp (c .if2 .left, c .before .before .own .given .1, ← (c .before .before .before .before .wants .ensures), c .before .before .before .before .before .if1 .taken)
 
 returns-3 : tie.Need-returns-3
 unfolding chooseOf
-returns-3 c = simp (c .old-place .ensures, c .before .if2 .left, ← (c .before .before .opens .ensures), c .before .before .before .if1 .taken)
+returns-3 c = simp (c .old-place .ensures, c .before .enum-told .given .1, ← (c .before .before .before .wants .ensures), c .before .before .before .before .if1 .taken)
 
 returns-4 : tie.Need-returns-4
 unfolding chooseOf
@@ -35,9 +45,10 @@ pub choose-spec : {M : Type 1} → statement M
 choose-spec =
     tie.close
     (tie.spec
-    opens-requires
-    ranged-requires
+    wants-requires
+    enum-known-own
     new-place-requires
+    enum-told
     old-place-requires
     returns
     returns-2

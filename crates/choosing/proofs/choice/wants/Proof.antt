@@ -1,6 +1,31 @@
+use Prim.Native.Nat.{ℕ}
+use denote.Enum.Declared.{tagOf}
+use mathlib.Core.List.{List, [], _∷_}
+use mathlib.Core.Path.{_≡_, refl}
+use types.Run.{OneOf, miss}
 use borrow.Author.Needs.{needs}
+use Rattle.events.specs.declared.Event.{Event}
+use Rattle.events.proofs.Event.{the-type}
+use Rattle.choosing.specs.Choice.{wantedOf}
+use Rattle.choosing.specs.declared.choice.Wanted.{Wanted}
 use Rattle.choosing.proofs.choice.wants.Statement.{statement}
 use Rattle.choosing.proofs.choice.wants.Tie as tie
+
+abbrev rest : List ℕ
+rest = 1 ∷ 2 ∷ 3 ∷ 4 ∷ 5 ∷ 6 ∷ 7 ∷ 8 ∷ 9 ∷ []
+
+-- no event of the last arm is a SETUP
+others : (e : Event) → OneOf rest (tagOf the-type e) → Wanted.Old ≡ wantedOf e
+others (Event.Setup reference rights requests) k = absurd (miss rest 0 tt k)
+others (Event.Alerting answers) k = refl
+others (Event.Connect answers) k = refl
+others (Event.Information side more) k = refl
+others (Event.Facility side what) k = refl
+others (Event.Disconnect side cause answers) k = refl
+others (Event.ReleaseComplete side) k = refl
+others Event.Tick k = refl
+others Event.CallProceeding k = refl
+others Event.CongestionControl k = refl
 
 enum-known-event : tie.Need-enum-known-event
 enum-known-event c = search needs
@@ -11,86 +36,13 @@ reference-fits-requires c κs = search needs
 rights-fit-requires : tie.Need-rights-fit-requires
 rights-fit-requires c κs = search needs
 
-enum-known-event-2 : tie.Need-enum-known-event-2
-enum-known-event-2 c = search needs
-
-enum-known-event-3 : tie.Need-enum-known-event-3
-enum-known-event-3 c = search needs
-
-enum-known-event-4 : tie.Need-enum-known-event-4
-enum-known-event-4 c = search needs
-
-enum-known-event-5 : tie.Need-enum-known-event-5
-enum-known-event-5 c = search needs
-
-enum-known-event-6 : tie.Need-enum-known-event-6
-enum-known-event-6 c = search needs
-
-enum-known-event-7 : tie.Need-enum-known-event-7
-enum-known-event-7 c = search needs
-
-enum-told : tie.Need-enum-told
-enum-told c = search needs
-
-enum-told-2 : tie.Need-enum-told-2
-enum-told-2 c = search needs
-
-enum-told-3 : tie.Need-enum-told-3
-enum-told-3 c = search needs
-
 returns : tie.Need-returns
 returns c = simp (c .rights-fit .ensures, c .before .reference-fits .ensures, c .before .before .before .event .given .1)
 
 returns-2 : tie.Need-returns-2
-returns-2 c = search needs
-
-returns-3 : tie.Need-returns-3
-returns-3 c = search needs
-
-returns-4 : tie.Need-returns-4
-returns-4 c = search needs
-
-returns-5 : tie.Need-returns-5
-returns-5 c = search needs
-
-returns-6 : tie.Need-returns-6
-returns-6 c = simp (c .before .event6 .given .1)
-
-returns-7 : tie.Need-returns-7
-returns-7 c = search needs
-
-returns-8 : tie.Need-returns-8
-returns-8 c = search needs
-
-returns-9 : tie.Need-returns-9
-returns-9 c = search needs
-
-returns-10 : tie.Need-returns-10
-returns-10 c = search needs
+returns-2 c = others (c .before .args .event) (c .match .keys2)
 
 pub wants-spec : {M : Type 1} → statement M
 wants-spec =
     tie.close
-    (tie.spec
-    enum-known-event
-    reference-fits-requires
-    rights-fit-requires
-    enum-known-event-2
-    enum-known-event-3
-    enum-known-event-4
-    enum-known-event-5
-    enum-known-event-6
-    enum-known-event-7
-    enum-told
-    enum-told-2
-    enum-told-3
-    returns
-    returns-2
-    returns-3
-    returns-4
-    returns-5
-    returns-6
-    returns-7
-    returns-8
-    returns-9
-    returns-10)
+    (tie.spec enum-known-event reference-fits-requires rights-fit-requires returns returns-2)
