@@ -36,17 +36,8 @@ fn changes(a: Answer) -> bool
     ensures { λ r. ⌜ r ≡ changesOf a ⌝ }
 {
     match a {
-        Answer::Taken => true,
-        Answer::OutOfPhase => false,
-        Answer::NotAnEvent => false,
-        Answer::NoService => false,
-        Answer::Spent => true,
-        Answer::NotOpen => false,
-        Answer::NotGranted => false,
-        Answer::BadElement => false,
-        Answer::AskedRequired => false,
-        Answer::OutOfRange => false,
-        Answer::Unsound => false,
+        Answer::Taken | Answer::Spent => true,
+        _ => false,
     }
 }
 

@@ -1,6 +1,4 @@
 use Rattle.choosing.specs.Choice.{chooseOf}
-use Rattle.choosing.specs.Choice.{opensOf}
-use Rattle.choosing.specs.Choice.{rangedOf}
 use borrow.Author.Needs.{needs}
 use Rattle.choosing.proofs.choice.choose.Statement.{statement}
 use Rattle.choosing.proofs.choice.choose.Tie as tie
