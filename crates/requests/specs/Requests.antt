@@ -12,12 +12,13 @@ use Rattle.standing.specs.declared.Standing.{Standing}
 use Rattle.standing.specs.declared.Standings.{Standings}
 use Rattle.rights.specs.Rights.{hasOf}
 use Rattle.causes.specs.Cause.{notSubscribed}
-use Rattle.carriage.specs.Element.{wholeOf}
+use Rattle.carriage.specs.Element.{wholeOf, notedOf, goesOutOf}
 use Rattle.sent.specs.declared.Kind.{Kind}
 use Rattle.sent.specs.declared.Sent.{Sent}
 use Rattle.phases.specs.declared.Phase.{Phase}
 use Rattle.sent.specs.Message.{sayingOf}
 use Rattle.standing.specs.Standing.{remainsOf}
+use Rattle.requests.specs.declared.Opening.{Opening}
 
 -- "Each service is not asked, preferred or required."
 abbrev pub askedStandingOf : Request → Bool → Standing
@@ -101,3 +102,20 @@ toCalledOf lacking requests element = cond lacking Sent.Absent (sayingOf Kind.Se
 -- "the element (if service 1 remains)", and the message goes on
 unfoldable pub setupCarriesOf : Rights → Requests → Seen → Bool
 setupCarriesOf rights q seen = not (lacksOf rights q) && remainsOf (standingsOf rights q seen .one)
+
+-- a SETUP that is taken, where the first argument says whether the rights lack a required service and carried whether the message goes on with
+-- service 1
+unfoldable pub decidedOf : Bool → Standings → Seen → Bool → Facilities → Facilities → Opening
+decidedOf lacking standings seen carried refusals requests =
+    record {
+      phase = setupPhaseOf lacking;
+      standings = standings;
+      note = notedOf seen carried;
+      calling = toCallerOf lacking refusals;
+      called = toCalledOf lacking requests (goesOutOf seen carried);
+    }
+
+unfoldable pub openingOf : Rights → Requests → Seen → Opening
+openingOf rights q seen =
+    decidedOf (lacksOf rights q) (standingsOf rights q seen) seen (setupCarriesOf rights q seen) (networkRefusalsOf rights q)
+    (passedRequestsOf rights q)

@@ -1,7 +1,10 @@
 // What SETUP asks for, held against the rights: how each service then stands, and what is said of it to each user.
 ghost use mathlib.Core.Path.{_≡_};
-ghost use Rattle.requests.specs.Requests.{askedStandingOf, impliedOf, firstStandingOf, lackingOf, passedRequestOf, networkRefusalOf, standingsOf, lacksOf, passedRequestsOf, networkRefusalsOf, setupPhaseOf, toCallerOf, toCalledOf, setupCarriesOf};
+ghost use Rattle.requests.specs.Requests.{askedStandingOf, firstStandingOf, lackingOf, passedRequestOf, networkRefusalOf, decidedOf, openingOf};
+use carriage::Note;
 use carriage::Seen;
+use carriage::goes_out;
+use carriage::noted;
 use carriage::whole;
 use causes::Cause;
 use causes::NOT_SUBSCRIBED;
@@ -19,6 +22,15 @@ use standing::Said;
 use standing::Standing;
 use standing::Standings;
 use standing::remains;
+
+// What a SETUP that is taken makes of the call: its phase, how each service stands, the element's note, and the two messages.
+pub struct Opening {
+    pub phase: Phase,
+    pub standings: Standings,
+    pub note: Note,
+    pub calling: Sent,
+    pub called: Sent,
+}
 
 // How a service stands after SETUP; `had` says whether the rights have it.
 fn asked_standing(q: Request, had: bool) -> Standing
@@ -43,28 +55,25 @@ fn asked_standing(q: Request, had: bool) -> Standing
     }
 }
 
-fn implied(q: Request, s: Seen) -> bool
-    ensures { λ r. ⌜ r ≡ impliedOf q s ⌝ }
-{
-    match q {
-        Request::Unasked => whole(s),
-        Request::Preferred => false,
-        Request::Required => false,
-    }
-}
-
 // Service 1 may be asked for by its element alone, and is then in force at once: nobody answers it.
 fn first_standing(q: Request, s: Seen, had: bool) -> Standing
     ensures { λ r. ⌜ r ≡ firstStandingOf q s had ⌝ }
 {
-    if implied(q, s) {
-        if had {
-            Standing::InForce
-        } else {
-            Standing::Closed
+    let asked = asked_standing(q, had);
+    match q {
+        Request::Unasked => {
+            if whole(s) {
+                if had {
+                    Standing::InForce
+                } else {
+                    Standing::Closed
+                }
+            } else {
+                asked
+            }
         }
-    } else {
-        asked_standing(q, had)
+        Request::Preferred => asked,
+        Request::Required => asked,
     }
 }
 
@@ -101,99 +110,75 @@ fn network_refusal(q: Request, had: bool) -> Said
     }
 }
 
-pub fn standings_of(rights: Rights, q: Requests, s: Seen) -> Standings
-    ensures { λ r. ⌜ r ≡ standingsOf rights q s ⌝ }
+// `lacks` says whether the rights lack a required service, `carried` whether the message goes on with service 1.
+fn decided(
+    lacks: bool,
+    standings: Standings,
+    s: Seen,
+    carried: bool,
+    refusals: Facilities,
+    passed: Facilities,
+) -> Opening
+    ensures { λ r. ⌜ r ≡ decidedOf lacks standings s carried refusals passed ⌝ }
 {
-    let one = q.one;
-    let two = q.two;
-    let three = q.three;
-    Standings {
-        one: first_standing(one, s, has(rights, Service::One)),
-        two: asked_standing(two, has(rights, Service::Two)),
-        three: asked_standing(three, has(rights, Service::Three)),
-    }
-}
-
-fn lacks(rights: Rights, q: Requests) -> bool
-    ensures { λ r. ⌜ r ≡ lacksOf rights q ⌝ }
-{
-    let one = q.one;
-    let two = q.two;
-    let three = q.three;
-    lacking(one, has(rights, Service::One))
-        | lacking(two, has(rights, Service::Two))
-        | lacking(three, has(rights, Service::Three))
-}
-
-fn passed_requests(rights: Rights, q: Requests) -> Facilities
-    ensures { λ r. ⌜ r ≡ passedRequestsOf rights q ⌝ }
-{
-    let one = q.one;
-    let two = q.two;
-    let three = q.three;
-    Facilities {
-        one: passed_request(one, has(rights, Service::One)),
-        two: passed_request(two, has(rights, Service::Two)),
-        three: passed_request(three, has(rights, Service::Three)),
-    }
-}
-
-fn network_refusals(rights: Rights, q: Requests) -> Facilities
-    ensures { λ r. ⌜ r ≡ networkRefusalsOf rights q ⌝ }
-{
-    let one = q.one;
-    let two = q.two;
-    let three = q.three;
-    Facilities {
-        one: network_refusal(one, has(rights, Service::One)),
-        two: network_refusal(two, has(rights, Service::Two)),
-        three: network_refusal(three, has(rights, Service::Three)),
-    }
-}
-
-pub fn setup_phase(rights: Rights, q: Requests) -> Phase
-    ensures { λ r. ⌜ r ≡ setupPhaseOf (lacksOf rights q) ⌝ }
-{
-    if lacks(rights, q) {
-        Phase::Ended
+    let note = noted(s, carried);
+    if lacks {
+        Opening {
+            phase: Phase::Ended,
+            standings: standings,
+            note: note,
+            calling: saying(
+                Kind::ReleaseComplete,
+                Cause::Value(NOT_SUBSCRIBED),
+                refusals,
+                false,
+            ),
+            called: Sent::Absent,
+        }
     } else {
-        Phase::Requested
-    }
-}
-
-pub fn to_caller(rights: Rights, q: Requests) -> Sent
-    ensures { λ r. ⌜ r ≡ toCallerOf (lacksOf rights q) (networkRefusalsOf rights q) ⌝ }
-{
-    let refusals = network_refusals(rights, q);
-    if lacks(rights, q) {
-        saying(
-            Kind::ReleaseComplete,
-            Cause::Value(NOT_SUBSCRIBED),
-            refusals,
-            false,
-        )
-    } else {
-        saying(Kind::CallProceeding, Cause::Absent, refusals, false)
-    }
-}
-
-// `element` says whether the element goes out.
-pub fn to_called(rights: Rights, q: Requests, element: bool) -> Sent
-    ensures { λ r. ⌜ r ≡ toCalledOf (lacksOf rights q) (passedRequestsOf rights q) element ⌝ }
-{
-    let requests = passed_requests(rights, q);
-    if lacks(rights, q) {
-        Sent::Absent
-    } else {
-        saying(Kind::Setup, Cause::Absent, requests, element)
+        Opening {
+            phase: Phase::Requested,
+            standings: standings,
+            note: note,
+            calling: saying(Kind::CallProceeding, Cause::Absent, refusals, false),
+            called: saying(Kind::Setup, Cause::Absent, passed, goes_out(s, carried)),
+        }
     }
 }
 
 // The element goes on where the message does and service 1 remains.
-pub fn carries(rights: Rights, q: Requests, s: Seen) -> bool
-    ensures { λ r. ⌜ r ≡ setupCarriesOf rights q s ⌝ }
+pub fn opens(rights: Rights, q: Requests, s: Seen) -> Opening
+    ensures { λ r. ⌜ r ≡ openingOf rights q s ⌝ }
 {
-    let standings = standings_of(rights, q, s);
-    let one = standings.one;
-    !lacks(rights, q) & remains(one)
+    let one = q.one;
+    let two = q.two;
+    let three = q.three;
+    let has_one = has(rights, Service::One);
+    let has_two = has(rights, Service::Two);
+    let has_three = has(rights, Service::Three);
+    let first = first_standing(one, s, has_one);
+    let standings = Standings {
+        one: first,
+        two: asked_standing(two, has_two),
+        three: asked_standing(three, has_three),
+    };
+    let lacks = lacking(one, has_one) | lacking(two, has_two) | lacking(three, has_three);
+    let refusals = Facilities {
+        one: network_refusal(one, has_one),
+        two: network_refusal(two, has_two),
+        three: network_refusal(three, has_three),
+    };
+    let passed = Facilities {
+        one: passed_request(one, has_one),
+        two: passed_request(two, has_two),
+        three: passed_request(three, has_three),
+    };
+    decided(
+        lacks,
+        standings,
+        s,
+        !lacks & remains(first),
+        refusals,
+        passed,
+    )
 }
