@@ -156,29 +156,27 @@ pub fn opens(rights: Rights, q: Requests, s: Seen) -> Opening
     let has_one = has(rights, Service::One);
     let has_two = has(rights, Service::Two);
     let has_three = has(rights, Service::Three);
-    let first = first_standing(one, s, has_one);
-    let standings = Standings {
-        one: first,
-        two: asked_standing(two, has_two),
-        three: asked_standing(three, has_three),
-    };
     let lacks = lacking(one, has_one) | lacking(two, has_two) | lacking(three, has_three);
-    let refusals = Facilities {
-        one: network_refusal(one, has_one),
-        two: network_refusal(two, has_two),
-        three: network_refusal(three, has_three),
-    };
-    let passed = Facilities {
-        one: passed_request(one, has_one),
-        two: passed_request(two, has_two),
-        three: passed_request(three, has_three),
-    };
+    let first = first_standing(one, s, has_one);
+    let carried = !lacks & remains(first);
     decided(
         lacks,
-        standings,
+        Standings {
+            one: first,
+            two: asked_standing(two, has_two),
+            three: asked_standing(three, has_three),
+        },
         s,
-        !lacks & remains(first),
-        refusals,
-        passed,
+        carried,
+        Facilities {
+            one: network_refusal(one, has_one),
+            two: network_refusal(two, has_two),
+            three: network_refusal(three, has_three),
+        },
+        Facilities {
+            one: passed_request(one, has_one),
+            two: passed_request(two, has_two),
+            three: passed_request(three, has_three),
+        },
     )
 }
