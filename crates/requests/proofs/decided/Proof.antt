@@ -1,7 +1,4 @@
-use Rattle.requests.specs.Requests.{decidedOf}
-use Rattle.requests.specs.Requests.{setupPhaseOf}
-use Rattle.requests.specs.Requests.{toCallerOf}
-use Rattle.requests.specs.Requests.{toCalledOf}
+use Rattle.requests.specs.Requests.{decidedOf, setupPhaseOf, toCallerOf, toCalledOf}
 use borrow.Author.Needs.{needs}
 use Rattle.requests.proofs.decided.Statement.{statement}
 use Rattle.requests.proofs.decided.Tie as tie

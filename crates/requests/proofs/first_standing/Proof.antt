@@ -24,11 +24,11 @@ enum-told-3 c = search needs
 
 returns : tie.Need-returns
 unfolding firstStandingOf
-returns c = simp (c .if2 .taken, c .before .if1 .taken, ← (c .before .before .whole .ensures), c .before .before .before .enum-told .given .1, c .before .before .before .before .before .asked-standing .ensures)
+returns c = simp (c .if2 .taken, c .before .if1 .taken, ← (c .before .before .whole .ensures), c .before .before .before .enum-told .given .1)
 
 returns-2 : tie.Need-returns-2
 unfolding firstStandingOf
-returns-2 c = simp (c .if2 .left, c .before .if1 .taken, ← (c .before .before .whole .ensures), c .before .before .before .enum-told .given .1, c .before .before .before .before .before .asked-standing .ensures)
+returns-2 c = simp (c .if2 .left, c .before .if1 .taken, ← (c .before .before .whole .ensures), c .before .before .before .enum-told .given .1)
 
 returns-3 : tie.Need-returns-3
 unfolding firstStandingOf

@@ -1,9 +1,4 @@
-use Rattle.requests.specs.Requests.{openingOf}
-use Rattle.requests.specs.Requests.{lacksOf}
-use Rattle.requests.specs.Requests.{standingsOf}
-use Rattle.requests.specs.Requests.{setupCarriesOf}
-use Rattle.requests.specs.Requests.{networkRefusalsOf}
-use Rattle.requests.specs.Requests.{passedRequestsOf}
+use Rattle.requests.specs.Requests.{openingOf, lacksOf, standingsOf, setupCarriesOf, networkRefusalsOf, passedRequestsOf}
 use borrow.Author.Needs.{needs}
 use Rattle.requests.proofs.opens.Statement.{statement}
 use Rattle.requests.proofs.opens.Tie as tie
