@@ -1,13 +1,12 @@
 // FACILITY about service 3: what it says, and what the asker and the other user are told.
 ghost use mathlib.Core.Path.{_≡_};
-ghost use Rattle.telling.specs.Telling.{facilitySaidOf, notGrantedOf, aboutThreeOf, toAskerOf, toOtherOf};
+ghost use Rattle.telling.specs.Telling.{facilitySaidOf, aboutThreeOf, toAskerOf, toOtherOf};
 use asking::What;
 use causes::Cause;
 use numbers::Answer;
 use numbers::taken;
 use sent::Kind;
 use sent::Sent;
-use sent::only_if;
 use sent::saying;
 use standing::Facilities;
 use standing::Said;
@@ -20,24 +19,6 @@ fn facility_said(what: What) -> Said
         What::Accept => Said::Accepted,
         What::Reject => Said::ByUser,
         What::Required => Said::Required,
-    }
-}
-
-fn not_granted(a: Answer) -> bool
-    ensures { λ r. ⌜ r ≡ notGrantedOf a ⌝ }
-{
-    match a {
-        Answer::Taken => false,
-        Answer::OutOfPhase => false,
-        Answer::NotAnEvent => false,
-        Answer::NoService => false,
-        Answer::Spent => false,
-        Answer::NotOpen => false,
-        Answer::NotGranted => true,
-        Answer::BadElement => false,
-        Answer::AskedRequired => false,
-        Answer::OutOfRange => false,
-        Answer::Unsound => false,
     }
 }
 
@@ -61,12 +42,19 @@ fn about_three(s: Said) -> Sent
 pub fn to_asker(verdict: Answer) -> Sent
     ensures { λ s. ⌜ s ≡ toAskerOf verdict ⌝ }
 {
-    only_if(not_granted(verdict), about_three(Said::ByNetwork))
+    match verdict {
+        Answer::NotGranted => about_three(Said::ByNetwork),
+        _ => Sent::Absent,
+    }
 }
 
 // What is taken goes on to the other user.
 pub fn to_other(verdict: Answer, what: What) -> Sent
     ensures { λ s. ⌜ s ≡ toOtherOf verdict what ⌝ }
 {
-    only_if(taken(verdict), about_three(facility_said(what)))
+    if taken(verdict) {
+        about_three(facility_said(what))
+    } else {
+        Sent::Absent
+    }
 }
