@@ -1,6 +1,6 @@
 // The two meters of a call at a tick, and who is then told that it is ready.
 ghost use mathlib.Core.Path.{_≡_};
-ghost use Rattle.ticking.specs.Ticking.{tickedMetersOf, refillsOf, readyOf};
+ghost use Rattle.ticking.specs.Ticking.{refillsOf, readyOf};
 use meter::Meter;
 use meter::ticked;
 use meters::Meters;
@@ -10,22 +10,17 @@ use sent::Sent;
 use sent::congestion;
 use sent::only_if;
 
-fn ticked_meters(m: Meters, r: Rights) -> Meters
-    ensures { λ n. ⌜ n ≡ tickedMetersOf m r ⌝ }
-{
-    let calling = m.calling;
-    let called = m.called;
-    Meters {
-        calling: ticked(calling, r.burst, r.refill),
-        called: ticked(called, r.burst, r.refill),
-    }
-}
-
 // `runs` says whether service 3 is in force in Active: otherwise a tick does nothing.
-pub fn refills(m: Meters, r: Rights, runs: bool) -> Meters
+pub fn refills(mut m: Meters, r: Rights, runs: bool) -> Meters
     ensures { λ n. ⌜ n ≡ refillsOf m r runs ⌝ }
 {
-    if runs { ticked_meters(m, r) } else { m }
+    if runs {
+        m.calling = ticked(m.calling, r.burst, r.refill);
+        m.called = ticked(m.called, r.burst, r.refill);
+        m
+    } else {
+        m
+    }
 }
 
 // The sender of a direction whose mark is set is told that it is ready.
