@@ -1,23 +1,25 @@
 use borrow.Author.Needs.{needs}
 use Rattle.meters.proofs.spent.Statement.{statement}
 use Rattle.meters.proofs.spent.Tie as tie
-use Rattle.meters.proofs.spent.Reads as reads
-use Rattle.meters.proofs.spent.Lts as lts
-use Rattle.passage.proofs.after.Reads as after-reads
-use Rattle.meters.proofs.meter_of.Reads as meter-of-reads
-use Rattle.meters.proofs.with_meter.Reads as with-meter-reads
 
-meter-of-requires : tie.Need-meter-of-requires
-meter-of-requires c κs = search needs
+enum-told : tie.Need-enum-told
+enum-told c = search needs
 
 after-requires : tie.Need-after-requires
 after-requires c κs = search needs
 
-with-meter-requires : tie.Need-with-meter-requires
-with-meter-requires c κs = search needs
+enum-told-2 : tie.Need-enum-told-2
+enum-told-2 c = search needs
+
+after-requires-2 : tie.Need-after-requires-2
+after-requires-2 c κs = search needs
 
 returns : tie.Need-returns
-returns c = simp (c .with-meter .ensures, c .before .after .ensures, c .before .before .meter-of .ensures)
+returns c = simp (c .after .ensures, c .before .enum-told .given .1)
+
+returns-2 : tie.Need-returns-2
+returns-2 c = simp (c .after2 .ensures, c .before .enum-told2 .given .1)
 
 pub spent-spec : {M : Type 1} → statement M
-spent-spec = tie.close (tie.spec meter-of-requires after-requires with-meter-requires returns)
+spent-spec =
+    tie.close (tie.spec enum-told after-requires enum-told-2 after-requires-2 returns returns-2)
