@@ -1,6 +1,6 @@
 // Service 3 asked for while connected: who may ask, who has asked, and what is answered.
 ghost use mathlib.Core.Path.{_≡_};
-ghost use Rattle.asking.specs.Asking.{nobodyAsks, asksOf, withAskOf, mayAskOf, toRequestOf, toAnswerOf, verdictOf, facilityAskingOf, facilityThreeOf};
+ghost use Rattle.asking.specs.Asking.{nobodyAsks, asksOf, withAskOf, mayAskOf, toAnswerOf, verdictOf, facilityAskingOf, facilityThreeOf};
 use numbers::Answer;
 use rights::Rights;
 use rights::Service;
@@ -42,18 +42,18 @@ fn asks(a: Asking, side: Side) -> bool
     }
 }
 
-fn with_ask(a: Asking, side: Side, b: bool) -> Asking
+fn with_ask(mut a: Asking, side: Side, b: bool) -> Asking
     ensures { λ r. ⌜ r ≡ withAskOf a side b ⌝ }
 {
     match side {
-        Side::Calling => Asking {
-            calling: b,
-            called: a.called,
-        },
-        Side::Called => Asking {
-            calling: a.calling,
-            called: b,
-        },
+        Side::Calling => {
+            a.calling = b;
+            a
+        }
+        Side::Called => {
+            a.called = b;
+            a
+        }
     }
 }
 
@@ -66,31 +66,25 @@ fn may_ask(r: Rights, side: Side) -> bool
     }
 }
 
-// 16, then 15.
-fn to_request(may: bool, shut: bool) -> Answer
-    ensures { λ r. ⌜ r ≡ toRequestOf may shut ⌝ }
-{
-    if may {
-        if shut { Answer::NotOpen } else { Answer::Taken }
-    } else {
-        Answer::NotGranted
-    }
-}
-
 fn to_answer(shut: bool) -> Answer
     ensures { λ r. ⌜ r ≡ toAnswerOf shut ⌝ }
 {
     if shut { Answer::NotOpen } else { Answer::Taken }
 }
 
-// `force` says whether service 3 is in force.
+// `force` says whether service 3 is in force. A request is answered 16, then 15.
 pub fn verdict(r: Rights, a: Asking, force: bool, side: Side, what: What) -> Answer
     ensures { λ v. ⌜ v ≡ verdictOf r a force side what ⌝ }
 {
     match what {
-        What::Preferred => to_request(may_ask(r, side), force | asks(a, side)),
-        What::Accept => to_answer(force | !asks(a, peer(side))),
-        What::Reject => to_answer(force | !asks(a, peer(side))),
+        What::Preferred => {
+            if may_ask(r, side) {
+                to_answer(force | asks(a, side))
+            } else {
+                Answer::NotGranted
+            }
+        }
+        What::Accept | What::Reject => to_answer(force | !asks(a, peer(side))),
         What::Required => Answer::AskedRequired,
     }
 }

@@ -1,13 +1,21 @@
+use Rattle.asking.specs.Asking.{toRequestOf, toAnswerOf, facilityAnswerOf}
+use Rattle.asking.specs.declared.What.{What}
+use Rattle.asking.proofs.What.{the-type}
+use Rattle.numbers.specs.declared.Answer.{Answer}
+use denote.Enum.Declared.{tagOf}
+use mathlib.Core.List.{[], _∷_}
+use mathlib.Core.Path.{_≡_, refl}
+use types.Run.{OneOf, miss}
 use borrow.Author.Needs.{needs}
 use Rattle.asking.proofs.verdict.Statement.{statement}
 use Rattle.asking.proofs.verdict.Tie as tie
-use Rattle.asking.proofs.verdict.Reads as reads
-use Rattle.asking.proofs.verdict.Lts as lts
-use Rattle.asking.proofs.asks.Reads as asks-reads
-use Rattle.asking.proofs.may_ask.Reads as may-ask-reads
-use Rattle.asking.proofs.to_answer.Reads as to-answer-reads
-use Rattle.asking.proofs.to_request.Reads as to-request-reads
-use Rattle.sides.proofs.peer.Reads as peer-reads
+
+-- accept and reject are answers, not requests
+answers : (w : What) → OneOf (1 ∷ 2 ∷ []) (tagOf the-type w) → (x y : Answer) → facilityAnswerOf w x y ≡ y
+answers What.Preferred k x y = absurd (miss (1 ∷ 2 ∷ []) 0 tt k)
+answers What.Accept k x y = refl
+answers What.Reject k x y = refl
+answers What.Required k x y = absurd (miss (1 ∷ 2 ∷ []) 3 tt k)
 
 enum-told : tie.Need-enum-told
 enum-told c = search needs
@@ -18,11 +26,8 @@ may-ask-requires c κs = search needs
 asks-requires : tie.Need-asks-requires
 asks-requires c κs = search needs
 
-to-request-requires : tie.Need-to-request-requires
-to-request-requires c κs = search needs
-
-enum-told-2 : tie.Need-enum-told-2
-enum-told-2 c = search needs
+to-answer-requires : tie.Need-to-answer-requires
+to-answer-requires c κs = search needs
 
 peer-requires : tie.Need-peer-requires
 peer-requires c κs = search needs
@@ -30,32 +35,22 @@ peer-requires c κs = search needs
 asks-requires-2 : tie.Need-asks-requires-2
 asks-requires-2 c κs = search needs
 
-to-answer-requires : tie.Need-to-answer-requires
-to-answer-requires c κs = search needs
-
-enum-told-3 : tie.Need-enum-told-3
-enum-told-3 c = search needs
-
-peer-requires-2 : tie.Need-peer-requires-2
-peer-requires-2 c κs = search needs
-
-asks-requires-3 : tie.Need-asks-requires-3
-asks-requires-3 c κs = search needs
-
 to-answer-requires-2 : tie.Need-to-answer-requires-2
 to-answer-requires-2 c κs = search needs
 
-enum-told-4 : tie.Need-enum-told-4
-enum-told-4 c = search needs
+enum-told-2 : tie.Need-enum-told-2
+enum-told-2 c = search needs
 
 returns : tie.Need-returns
-returns c = simp (c .to-request .ensures, c .before .asks .ensures, c .before .before .may-ask .ensures, c .before .before .before .enum-told .given .1)
+unfolding toRequestOf toAnswerOf
+returns c = simp (c .to-answer .ensures, c .before .asks .ensures, c .before .before .if1 .taken, ← (c .before .before .before .may-ask .ensures), c .before .before .before .before .enum-told .given .1)
 
 returns-2 : tie.Need-returns-2
-returns-2 c = simp (c .to-answer .ensures, c .before .asks2 .ensures, c .before .before .peer .ensures, c .before .before .before .enum-told2 .given .1)
+unfolding toRequestOf
+returns-2 c = simp (c .if1 .left, ← (c .before .may-ask .ensures), c .before .before .enum-told .given .1)
 
 returns-3 : tie.Need-returns-3
-returns-3 c = simp (c .to-answer2 .ensures, c .before .asks3 .ensures, c .before .before .peer2 .ensures, c .before .before .before .enum-told3 .given .1)
+returns-3 c = simp (c .to-answer2 .ensures, c .before .asks2 .ensures, c .before .before .peer .ensures, answers (c .before .before .before .before .args .what) (c .before .before .before .match .keys2))
 
 returns-4 : tie.Need-returns-4
 returns-4 c = search needs
@@ -67,16 +62,11 @@ verdict-spec =
     enum-told
     may-ask-requires
     asks-requires
-    to-request-requires
-    enum-told-2
+    to-answer-requires
     peer-requires
     asks-requires-2
-    to-answer-requires
-    enum-told-3
-    peer-requires-2
-    asks-requires-3
     to-answer-requires-2
-    enum-told-4
+    enum-told-2
     returns
     returns-2
     returns-3
