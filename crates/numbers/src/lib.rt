@@ -21,16 +21,7 @@ pub fn taken(a: Answer) -> bool
 {
     match a {
         Answer::Taken => true,
-        Answer::OutOfPhase => false,
-        Answer::NotAnEvent => false,
-        Answer::NoService => false,
-        Answer::Spent => false,
-        Answer::NotOpen => false,
-        Answer::NotGranted => false,
-        Answer::BadElement => false,
-        Answer::AskedRequired => false,
-        Answer::OutOfRange => false,
-        Answer::Unsound => false,
+        _ => false,
     }
 }
 
