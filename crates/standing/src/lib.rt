@@ -64,11 +64,8 @@ pub fn in_force(s: Standing) -> bool
     ensures { λ r. ⌜ r ≡ inForceOf s ⌝ }
 {
     match s {
-        Standing::Unasked => false,
-        Standing::Preferred => false,
-        Standing::Required => false,
         Standing::InForce => true,
-        Standing::Closed => false,
+        _ => false,
     }
 }
 
@@ -77,11 +74,8 @@ pub fn awaits(s: Standing) -> bool
     ensures { λ r. ⌜ r ≡ awaitsOf s ⌝ }
 {
     match s {
-        Standing::Unasked => false,
-        Standing::Preferred => true,
-        Standing::Required => true,
-        Standing::InForce => false,
-        Standing::Closed => false,
+        Standing::Preferred | Standing::Required => true,
+        _ => false,
     }
 }
 
