@@ -17,11 +17,7 @@ pub fn is_fresh(p: Phase) -> bool
 {
     match p {
         Phase::Fresh => true,
-        Phase::Requested => false,
-        Phase::Alerting => false,
-        Phase::Active => false,
-        Phase::Clearing => false,
-        Phase::Ended => false,
+        _ => false,
     }
 }
 
@@ -30,12 +26,8 @@ pub fn is_requested(p: Phase) -> bool
     ensures { λ r. ⌜ r ≡ requestedOf p ⌝ }
 {
     match p {
-        Phase::Fresh => false,
         Phase::Requested => true,
-        Phase::Alerting => false,
-        Phase::Active => false,
-        Phase::Clearing => false,
-        Phase::Ended => false,
+        _ => false,
     }
 }
 
@@ -44,12 +36,8 @@ pub fn is_connectable(p: Phase) -> bool
     ensures { λ r. ⌜ r ≡ connectableOf p ⌝ }
 {
     match p {
-        Phase::Fresh => false,
-        Phase::Requested => true,
-        Phase::Alerting => true,
-        Phase::Active => false,
-        Phase::Clearing => false,
-        Phase::Ended => false,
+        Phase::Requested | Phase::Alerting => true,
+        _ => false,
     }
 }
 
@@ -58,12 +46,8 @@ pub fn is_talking(p: Phase) -> bool
     ensures { λ r. ⌜ r ≡ talkingOf p ⌝ }
 {
     match p {
-        Phase::Fresh => false,
-        Phase::Requested => false,
-        Phase::Alerting => true,
-        Phase::Active => true,
-        Phase::Clearing => false,
-        Phase::Ended => false,
+        Phase::Alerting | Phase::Active => true,
+        _ => false,
     }
 }
 
@@ -72,12 +56,8 @@ pub fn is_active(p: Phase) -> bool
     ensures { λ r. ⌜ r ≡ activeOf p ⌝ }
 {
     match p {
-        Phase::Fresh => false,
-        Phase::Requested => false,
-        Phase::Alerting => false,
         Phase::Active => true,
-        Phase::Clearing => false,
-        Phase::Ended => false,
+        _ => false,
     }
 }
 
@@ -86,12 +66,8 @@ pub fn is_up(p: Phase) -> bool
     ensures { λ r. ⌜ r ≡ upOf p ⌝ }
 {
     match p {
-        Phase::Fresh => false,
-        Phase::Requested => true,
-        Phase::Alerting => true,
-        Phase::Active => true,
-        Phase::Clearing => false,
-        Phase::Ended => false,
+        Phase::Requested | Phase::Alerting | Phase::Active => true,
+        _ => false,
     }
 }
 
@@ -100,11 +76,7 @@ pub fn is_live(p: Phase) -> bool
     ensures { λ r. ⌜ r ≡ liveOf p ⌝ }
 {
     match p {
-        Phase::Fresh => false,
-        Phase::Requested => true,
-        Phase::Alerting => true,
-        Phase::Active => true,
-        Phase::Clearing => true,
-        Phase::Ended => false,
+        Phase::Requested | Phase::Alerting | Phase::Active | Phase::Clearing => true,
+        _ => false,
     }
 }
