@@ -11,8 +11,8 @@ use Rattle.phases.specs.declared.Phase.{Phase}
 use Rattle.call.specs.declared.Call.{Call}
 use Rattle.call.specs.declared.reply.Reply.{Reply}
 use Rattle.rights.specs.Rights.{rightsFitOf, referenceFitsOf}
-use Rattle.requests.specs.Requests.{standingsOf, lacksOf, passedRequestsOf, networkRefusalsOf, setupPhaseOf, toCallerOf, toCalledOf, setupCarriesOf}
-use Rattle.carriage.specs.Element.{seenOf, notedOf, goesOutOf}
+use Rattle.requests.specs.Requests.{openingOf}
+use Rattle.carriage.specs.Element.{seenOf}
 use Rattle.asking.specs.Asking.{nobodyAsks}
 use Rattle.phases.specs.Phase.{freshOf}
 use Rattle.meters.specs.Meters.{emptyMeters}
@@ -34,11 +34,11 @@ filledOf reference rights phase standings =
 unfoldable pub proceedsOf : ℕ → Rights → Requests → Seen → Reply
 proceedsOf reference rights q seen =
     record {
-      call = filledOf reference rights (setupPhaseOf (lacksOf rights q)) (standingsOf rights q seen);
+      call = filledOf reference rights (openingOf rights q seen .phase) (openingOf rights q seen .standings);
       answer = Answer.Taken;
-      note = notedOf seen (setupCarriesOf rights q seen);
-      calling = toCallerOf (lacksOf rights q) (networkRefusalsOf rights q);
-      called = toCalledOf (lacksOf rights q) (passedRequestsOf rights q) (goesOutOf seen (setupCarriesOf rights q seen));
+      note = openingOf rights q seen .note;
+      calling = openingOf rights q seen .calling;
+      called = openingOf rights q seen .called;
     }
 
 -- "SETUP (Fresh)." Number 24: "SETUP, reference or rights out of range".

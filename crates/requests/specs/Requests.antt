@@ -105,7 +105,7 @@ setupCarriesOf rights q seen = not (lacksOf rights q) && remainsOf (standingsOf 
 
 -- a SETUP that is taken, where the first argument says whether the rights lack a required service and carried whether the message goes on with
 -- service 1
-unfoldable pub decidedOf : Bool → Standings → Seen → Bool → Facilities → Facilities → Opening
+abbrev pub decidedOf : Bool → Standings → Seen → Bool → Facilities → Facilities → Opening
 decidedOf lacking standings seen carried refusals requests =
     record {
       phase = setupPhaseOf lacking;
@@ -115,7 +115,7 @@ decidedOf lacking standings seen carried refusals requests =
       called = toCalledOf lacking requests (goesOutOf seen carried);
     }
 
-unfoldable pub openingOf : Rights → Requests → Seen → Opening
+abbrev pub openingOf : Rights → Requests → Seen → Opening
 openingOf rights q seen =
     decidedOf (lacksOf rights q) (standingsOf rights q seen) seen (setupCarriesOf rights q seen) (networkRefusalsOf rights q)
     (passedRequestsOf rights q)

@@ -1,4 +1,4 @@
-use Rattle.requests.specs.Requests.{decidedOf, setupPhaseOf, toCallerOf, toCalledOf}
+use Rattle.requests.specs.Requests.{setupPhaseOf, toCallerOf, toCalledOf}
 use borrow.Author.Needs.{needs}
 use Rattle.requests.proofs.decided.Statement.{statement}
 use Rattle.requests.proofs.decided.Tie as tie
@@ -24,11 +24,11 @@ saying-requires-3 : tie.Need-saying-requires-3
 saying-requires-3 c κs = search needs
 
 returns : tie.Need-returns
-unfolding decidedOf setupPhaseOf toCallerOf toCalledOf
+unfolding setupPhaseOf toCallerOf toCalledOf
 returns c = simp (c .saying .ensures, c .before .if1 .taken, c .before .before .noted .ensures)
 
 returns-2 : tie.Need-returns-2
-unfolding decidedOf setupPhaseOf toCallerOf toCalledOf
+unfolding setupPhaseOf toCallerOf toCalledOf
 returns-2 c = simp (c .saying3 .ensures, c .before .goes-out .ensures, c .before .before .saying2 .ensures, c .before .before .before .if1 .left, c .before .before .before .before .noted .ensures)
 
 pub decided-spec : {M : Type 1} → statement M

@@ -1,4 +1,4 @@
-use Rattle.requests.specs.Requests.{openingOf, lacksOf, standingsOf, setupCarriesOf, networkRefusalsOf, passedRequestsOf}
+use Rattle.requests.specs.Requests.{lacksOf, standingsOf, setupCarriesOf, networkRefusalsOf, passedRequestsOf}
 use borrow.Author.Needs.{needs}
 use Rattle.requests.proofs.opens.Statement.{statement}
 use Rattle.requests.proofs.opens.Tie as tie
@@ -65,7 +65,7 @@ decided-requires : tie.Need-decided-requires
 decided-requires c κs = search needs
 
 returns : tie.Need-returns
-unfolding openingOf lacksOf standingsOf setupCarriesOf networkRefusalsOf passedRequestsOf
+unfolding lacksOf standingsOf setupCarriesOf networkRefusalsOf passedRequestsOf
 returns c = simp (c .decided .ensures, c .before .passed-request3 .ensures, c .before .before .passed-request2 .ensures, c .before .before .before .passed-request .ensures, c .before .before .before .before .network-refusal3 .ensures, c .before .before .before .before .before .network-refusal2 .ensures, c .before .before .before .before .before .before .network-refusal .ensures, c .before .before .before .before .before .before .before .asked-standing2 .ensures, c .before .before .before .before .before .before .before .before .asked-standing .ensures, c .before .before .before .before .before .before .before .before .before .remains .ensures, c .before .before .before .before .before .before .before .before .before .before .first-standing .ensures, c .before .before .before .before .before .before .before .before .before .before .before .lacking3 .ensures, c .before .before .before .before .before .before .before .before .before .before .before .before .lacking2 .ensures, c .before .before .before .before .before .before .before .before .before .before .before .before .before .lacking .ensures, c .before .before .before .before .before .before .before .before .before .before .before .before .before .before .has3 .ensures, c .before .before .before .before .before .before .before .before .before .before .before .before .before .before .before .has2 .ensures, c .before .before .before .before .before .before .before .before .before .before .before .before .before .before .before .before .has .ensures)
 
 pub opens-spec : {M : Type 1} → statement M

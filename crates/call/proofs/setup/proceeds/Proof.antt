@@ -1,5 +1,4 @@
 use Rattle.call.specs.Setup.{proceedsOf, filledOf}
-use Rattle.requests.specs.Requests.{openingOf, decidedOf}
 use borrow.Author.Needs.{needs}
 use Rattle.call.proofs.setup.proceeds.Statement.{statement}
 use Rattle.call.proofs.setup.proceeds.Tie as tie
@@ -19,7 +18,7 @@ empty-meters-requires : tie.Need-empty-meters-requires
 empty-meters-requires c κs = search needs
 
 returns : tie.Need-returns
-unfolding proceedsOf filledOf openingOf decidedOf
+unfolding proceedsOf filledOf
 returns c = simp (c .empty-meters .ensures, c .before .nobody-asks .ensures, c .before .before .before .opens .ensures)
 
 pub proceeds-spec : {M : Type 1} → statement M
