@@ -1,6 +1,6 @@
 // What a piece of trace begins with, what that asks of a table of calls, and what is printed of the answer; all by value.
 ghost use mathlib.Core.Path.{_≡_};
-ghost use Rattle.fronts.specs.Fronts.{heardOf, frontOf, referenceIn, eventIn};
+ghost use Rattle.fronts.specs.Fronts.{frontOf, referenceIn, eventIn};
 use events::Event;
 use trace::reading::Entry;
 use trace::reading::Fault;
@@ -14,30 +14,23 @@ pub enum Front {
     Whole(Entry),
 }
 
-fn heard(last: bool, r: Record) -> Front
-    ensures { λ f. ⌜ f ≡ heardOf last r ⌝ }
+pub fn front_of(last: bool, t: &[u8]) -> Front
+    ensures { λ f. ⌜ f ≡ frontOf last (now (t .entry)) ⌝ }
 {
-    match r {
+    match read_record(t) {
         Record::End => Front::Waits,
         Record::Taken(e) => Front::Whole(e),
         Record::Refused(f) => match f {
-            Fault::Kind => Front::Faulty(Fault::Kind),
             Fault::Short => {
                 if last {
-                    Front::Faulty(Fault::Short)
+                    Front::Faulty(f)
                 } else {
                     Front::Waits
                 }
             }
-            Fault::Range => Front::Faulty(Fault::Range),
+            _ => Front::Faulty(f),
         },
     }
-}
-
-pub fn front_of(last: bool, t: &[u8]) -> Front
-    ensures { λ f. ⌜ f ≡ frontOf last (now (t .entry)) ⌝ }
-{
-    heard(last, read_record(t))
 }
 
 // What the front asks of the table: where there is no whole record, something that is not heeded.
@@ -45,9 +38,8 @@ pub fn reference_in(f: Front) -> u16
     ensures { λ r. ⌜ r ≡ referenceIn f ⌝ }
 {
     match f {
-        Front::Waits => 0,
-        Front::Faulty(x) => 0,
         Front::Whole(e) => e.reference,
+        _ => 0,
     }
 }
 
@@ -55,8 +47,7 @@ pub fn event_in(f: Front) -> Event
     ensures { λ r. ⌜ r ≡ eventIn f ⌝ }
 {
     match f {
-        Front::Waits => Event::Tick,
-        Front::Faulty(x) => Event::Tick,
         Front::Whole(e) => e.event,
+        _ => Event::Tick,
     }
 }
