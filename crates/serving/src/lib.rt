@@ -22,12 +22,9 @@ fn serves_two(p: Phase, force: bool, late: bool) -> bool
     ensures { λ r. ⌜ r ≡ servesTwoOf p force late ⌝ }
 {
     match p {
-        Phase::Fresh => false,
-        Phase::Requested => false,
         Phase::Alerting => force,
         Phase::Active => force & late,
-        Phase::Clearing => false,
-        Phase::Ended => false,
+        _ => false,
     }
 }
 
@@ -35,12 +32,8 @@ pub fn serves_three(p: Phase, force: bool) -> bool
     ensures { λ r. ⌜ r ≡ servesThreeOf p force ⌝ }
 {
     match p {
-        Phase::Fresh => false,
-        Phase::Requested => false,
-        Phase::Alerting => false,
         Phase::Active => force,
-        Phase::Clearing => false,
-        Phase::Ended => false,
+        _ => false,
     }
 }
 
