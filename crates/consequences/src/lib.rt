@@ -16,8 +16,7 @@ fn settled(s: Standing, f: Fate) -> Standing
     match f {
         Fate::Kept => s,
         Fate::Accepted => Standing::InForce,
-        Fate::Closed => Standing::Closed,
-        Fate::Failed(_) => Standing::Closed,
+        _ => Standing::Closed,
     }
 }
 
@@ -28,8 +27,7 @@ fn told(f: Fate) -> Said
     match f {
         Fate::Kept => Said::Nothing,
         Fate::Accepted => Said::Accepted,
-        Fate::Closed => Said::ByUser,
-        Fate::Failed(_) => Said::ByUser,
+        _ => Said::ByUser,
     }
 }
 
@@ -38,10 +36,8 @@ fn declined(f: Fate) -> Said
     ensures { λ r. ⌜ r ≡ declinedOf f ⌝ }
 {
     match f {
-        Fate::Kept => Said::Nothing,
-        Fate::Accepted => Said::Nothing,
-        Fate::Closed => Said::ByUser,
-        Fate::Failed(_) => Said::ByUser,
+        Fate::Kept | Fate::Accepted => Said::Nothing,
+        _ => Said::ByUser,
     }
 }
 
@@ -49,10 +45,8 @@ fn failure(f: Fate) -> Cause
     ensures { λ r. ⌜ r ≡ failureOf f ⌝ }
 {
     match f {
-        Fate::Kept => Cause::Absent,
-        Fate::Accepted => Cause::Absent,
-        Fate::Closed => Cause::Absent,
         Fate::Failed(n) => Cause::Value(n),
+        _ => Cause::Absent,
     }
 }
 

@@ -1,32 +1,34 @@
+use Prim.Native.Nat.{ℕ}
+use denote.Enum.Declared.{tagOf}
+use mathlib.Core.List.{List, [], _∷_}
+use mathlib.Core.Path.{_≡_, refl}
+use types.Run.{OneOf, miss}
 use borrow.Author.Needs.{needs}
+use Rattle.causes.specs.declared.Cause.{Cause}
+use Rattle.fates.specs.declared.Fate.{Fate}
+use Rattle.fates.proofs.Fate.{the-type}
+use Rattle.consequences.specs.Consequences.{failureOf}
 use Rattle.consequences.proofs.failure.Statement.{statement}
 use Rattle.consequences.proofs.failure.Tie as tie
 
-enum-told : tie.Need-enum-told
-enum-told c = search needs
+abbrev rest : List ℕ
+rest = 0 ∷ 1 ∷ 2 ∷ []
 
-enum-told-2 : tie.Need-enum-told-2
-enum-told-2 c = search needs
-
-enum-told-3 : tie.Need-enum-told-3
-enum-told-3 c = search needs
+-- no fate of the last arm has failed
+others : (f : Fate) → OneOf rest (tagOf the-type f) → Cause.Absent ≡ failureOf f
+others Fate.Kept k = refl
+others Fate.Accepted k = refl
+others Fate.Closed k = refl
+others (Fate.Failed n) k = absurd (miss rest 3 tt k)
 
 enum-known-f : tie.Need-enum-known-f
 enum-known-f c = search needs
 
 returns : tie.Need-returns
-returns c = search needs
+returns c = simp (c .before .f .given .1)
 
 returns-2 : tie.Need-returns-2
-returns-2 c = search needs
-
-returns-3 : tie.Need-returns-3
-returns-3 c = search needs
-
-returns-4 : tie.Need-returns-4
-returns-4 c = simp (c .before .f .given .1)
+returns-2 c = others (c .before .args .f) (c .match .keys2)
 
 pub failure-spec : {M : Type 1} → statement M
-failure-spec =
-    tie.close
-    (tie.spec enum-told enum-told-2 enum-told-3 enum-known-f returns returns-2 returns-3 returns-4)
+failure-spec = tie.close (tie.spec enum-known-f returns returns-2)
