@@ -22,9 +22,8 @@ fn rejection(waits: bool, g: Given) -> Said
     ensures { λ r. ⌜ r ≡ rejectionOf waits g ⌝ }
 {
     match g {
-        Given::Silent => Said::Nothing,
-        Given::Accepted => Said::Nothing,
         Given::Rejected => { if waits { Said::ByUser } else { Said::Nothing } }
+        _ => Said::Nothing,
     }
 }
 
@@ -33,7 +32,6 @@ fn closing_said(s: Standing, g: Given) -> Said
     ensures { λ r. ⌜ r ≡ closingSaidOf s g ⌝ }
 {
     match g {
-        Given::Silent => Said::Nothing,
         Given::Accepted => {
             if awaits(s) {
                 Said::Accepted
@@ -41,13 +39,7 @@ fn closing_said(s: Standing, g: Given) -> Said
                 Said::Nothing
             }
         }
-        Given::Rejected => {
-            if awaits(s) {
-                Said::ByUser
-            } else {
-                Said::Nothing
-            }
-        }
+        _ => rejection(awaits(s), g),
     }
 }
 
@@ -55,9 +47,8 @@ pub fn closing_standing(s: Standing, g: Given) -> Standing
     ensures { λ r. ⌜ r ≡ closingStandingOf s g ⌝ }
 {
     match g {
-        Given::Silent => s,
         Given::Accepted => { if awaits(s) { Standing::InForce } else { s } }
-        Given::Rejected => s,
+        _ => s,
     }
 }
 
