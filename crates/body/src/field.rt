@@ -33,21 +33,12 @@ pub fn field_fits(f: &[u8]) -> bool
         return false;
     }
     let n = wide(f[0]);
-    if n == 0 {
-        return blank(&f[1..132]);
-    }
-    if n < 2 {
-        return false;
-    }
     if n > 131 {
         return false;
     }
-    if f[1] != 126 {
-        return false;
+    let zeros = blank(&f[n + 1..132]);
+    if n < 2 {
+        return (n == 0) & zeros;
     }
-    if wide(f[2]) != n - 2 {
-        return false;
-    }
-    let e = n + 1;
-    blank(&f[e..132])
+    (f[1] == 126) & (wide(f[2]) == n - 2) & zeros
 }
