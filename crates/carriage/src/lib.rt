@@ -30,15 +30,10 @@ fn wide(x: u8) -> usize
 fn well_formed(e: &[u8]) -> bool
     ensures { λ r. ⌜ r ≡ wellFormedOf (now (e .entry)) ⌝ }
 {
-    if LEAST_ELEMENT <= e.len() {
-        if e[0] == USER_USER {
-            wide(e[1]) == e.len() - 2
-        } else {
-            false
-        }
-    } else {
-        false
+    if e.len() < LEAST_ELEMENT {
+        return false;
     }
+    (e[0] == USER_USER) & (wide(e[1]) == e.len() - 2)
 }
 
 pub fn look(e: &[u8], limit: u8) -> Seen
@@ -63,10 +58,8 @@ pub fn whole(s: Seen) -> bool
     ensures { λ r. ⌜ r ≡ wholeOf s ⌝ }
 {
     match s {
-        Seen::Absent => false,
-        Seen::Malformed => false,
-        Seen::TooLong => false,
         Seen::Whole => true,
+        _ => false,
     }
 }
 
