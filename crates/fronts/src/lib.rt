@@ -21,13 +21,7 @@ pub fn front_of(last: bool, t: &[u8]) -> Front
         Record::End => Front::Waits,
         Record::Taken(e) => Front::Whole(e),
         Record::Refused(f) => match f {
-            Fault::Short => {
-                if last {
-                    Front::Faulty(f)
-                } else {
-                    Front::Waits
-                }
-            }
+            Fault::Short => { if last { Front::Faulty(f) } else { Front::Waits } }
             _ => Front::Faulty(f),
         },
     }
