@@ -6,52 +6,35 @@ use meter::Meter;
 use meter::Passage;
 
 // A message that service 3 pays for, or that is dropped for credit.
-fn under_three(m: Meter) -> Passage
+fn under_three(mut m: Meter) -> Passage
     ensures { λ r. ⌜ r ≡ underThreeOf m ⌝ }
 {
     if 0 < m.credit {
-        Passage::Three(Meter {
-            credit: m.credit - 1,
-            mark: m.mark,
-            count: m.count,
-        })
-    } else {
-        if m.mark {
-            Passage::Spent
-        } else {
-            Passage::Marks(Meter {
-                credit: m.credit,
-                mark: true,
-                count: m.count,
-            })
-        }
+        m.credit = m.credit - 1;
+        return Passage::Three(m);
     }
+    if m.mark {
+        return Passage::Spent;
+    }
+    m.mark = true;
+    Passage::Marks(m)
 }
 
 // The count of service 2 is tried first, and then the credit of service 3.
-pub fn passage_of(m: Meter, two: bool, three: bool) -> Passage
+pub fn passage_of(mut m: Meter, two: bool, three: bool) -> Passage
     ensures { λ r. ⌜ r ≡ passageOf m two three ⌝ }
 {
+    if two & (m.count < GREATEST_COUNT) {
+        m.count = m.count + 1;
+        return Passage::Two(m);
+    }
+    if three {
+        return under_three(m);
+    }
     if two {
-        if m.count < GREATEST_COUNT {
-            Passage::Two(Meter {
-                credit: m.credit,
-                mark: m.mark,
-                count: m.count + 1,
-            })
-        } else {
-            if three {
-                under_three(m)
-            } else {
-                Passage::Spent
-            }
-        }
+        Passage::Spent
     } else {
-        if three {
-            under_three(m)
-        } else {
-            Passage::Unserved
-        }
+        Passage::Unserved
     }
 }
 
@@ -63,7 +46,6 @@ pub fn after(m: Meter, p: Passage) -> Meter
         Passage::Two(n) => n,
         Passage::Three(n) => n,
         Passage::Marks(n) => n,
-        Passage::Spent => m,
-        Passage::Unserved => m,
+        _ => m,
     }
 }

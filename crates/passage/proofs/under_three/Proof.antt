@@ -1,23 +1,23 @@
-use Rattle.passage.specs.Passage.{underThreeOf, spentOf, markedOf}
+use Rattle.passage.specs.Passage.{spentOf, markedOf, underThreeOf}
 use borrow.Author.Tests.{le-ltb, lt-ltb}
 use borrow.Author.Needs.{needs}
 use Rattle.passage.proofs.under_three.Statement.{statement}
 use Rattle.passage.proofs.under_three.Tie as tie
 
-sub-t4 : tie.Need-sub-t4
-sub-t4 c = search needs
+sub-m : tie.Need-sub-m
+sub-m c = search needs
 
 returns : tie.Need-returns
-unfolding underThreeOf spentOf markedOf
+unfolding underThreeOf spentOf
 returns c = simp (lt-ltb _ _ (c .before .if1 .taken))
 
 returns-2 : tie.Need-returns-2
-unfolding underThreeOf spentOf markedOf
+unfolding underThreeOf
 returns-2 c = simp (c .if2 .taken, le-ltb _ _ (c .before .if1 .left))
 
 returns-3 : tie.Need-returns-3
-unfolding underThreeOf spentOf markedOf
+unfolding underThreeOf markedOf
 returns-3 c = simp (c .if2 .left, le-ltb _ _ (c .before .if1 .left))
 
 pub under-three-spec : {M : Type 1} → statement M
-under-three-spec = tie.close (tie.spec sub-t4 returns returns-2 returns-3)
+under-three-spec = tie.close (tie.spec sub-m returns returns-2 returns-3)
