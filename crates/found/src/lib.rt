@@ -27,7 +27,7 @@ pub fn first_cause(c: Seen, body: &[u8]) -> Seen
 {
     match c {
         Seen::Unseen => Seen::First(cause_in(body)),
-        Seen::First(v) => Seen::First(v),
+        Seen::First(_) => c,
     }
 }
 
@@ -40,7 +40,7 @@ pub fn with_facility(f: Facilities, new: Facility) -> Facilities
             Facilities::Zero => Facilities::One(n),
             Facilities::One(a) => Facilities::Two(a, n),
             Facilities::Two(a, b) => Facilities::Three(a, b, n),
-            Facilities::Three(a, b, c) => Facilities::Three(a, b, c),
+            _ => f,
         },
     }
 }
@@ -50,7 +50,7 @@ pub fn first_place(p: Place, i: usize, n: usize) -> Place
 {
     match p {
         Place::Absent => Place::At(i, n),
-        Place::At(j, k) => Place::At(j, k),
+        Place::At(_, _) => p,
     }
 }
 

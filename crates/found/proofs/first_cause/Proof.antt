@@ -11,14 +11,14 @@ enum-told c = search needs
 cause-in-requires : tie.Need-cause-in-requires
 cause-in-requires c κs = search needs
 
-enum-known-c : tie.Need-enum-known-c
-enum-known-c c = search needs
+enum-told-2 : tie.Need-enum-told-2
+enum-told-2 c = search needs
 
 returns : tie.Need-returns
 returns c = simp (c .cause-in .ensures, c .before .enum-told .given .1)
 
 returns-2 : tie.Need-returns-2
-returns-2 c = simp (c .before .c .given .1)
+returns-2 c = search needs
 
 pub first-cause-spec : {M : Type 1} → statement M
-first-cause-spec = tie.close (tie.spec enum-told cause-in-requires enum-known-c returns returns-2)
+first-cause-spec = tie.close (tie.spec enum-told cause-in-requires enum-told-2 returns returns-2)

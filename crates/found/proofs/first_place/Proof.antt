@@ -7,14 +7,14 @@ use Rattle.found.proofs.first_place.Lts as lts
 enum-told : tie.Need-enum-told
 enum-told c = search needs
 
-enum-known-p : tie.Need-enum-known-p
-enum-known-p c = search needs
+enum-told-2 : tie.Need-enum-told-2
+enum-told-2 c = search needs
 
 returns : tie.Need-returns
 returns c = simp (c .enum-told .given .1)
 
 returns-2 : tie.Need-returns-2
-returns-2 c = simp (c .before .p .given .1)
+returns-2 c = search needs
 
 pub first-place-spec : {M : Type 1} → statement M
-first-place-spec = tie.close (tie.spec enum-told enum-known-p returns returns-2)
+first-place-spec = tie.close (tie.spec enum-told enum-told-2 returns returns-2)

@@ -19,8 +19,8 @@ enum-known-f c = search needs
 enum-known-f-2 : tie.Need-enum-known-f-2
 enum-known-f-2 c = search needs
 
-enum-known-f-3 : tie.Need-enum-known-f-3
-enum-known-f-3 c = search needs
+enum-told-3 : tie.Need-enum-told-3
+enum-told-3 c = search needs
 
 returns : tie.Need-returns
 returns c = search needs
@@ -35,7 +35,7 @@ returns-4 : tie.Need-returns-4
 returns-4 c = simp (c .before .f2 .given .1, c .before .before .before .before .new .given .1)
 
 returns-5 : tie.Need-returns-5
-returns-5 c = simp (c .before .f3 .given .1, c .before .before .before .before .new .given .1)
+returns-5 c = search needs
 
 pub with-facility-spec : {M : Type 1} → statement M
 with-facility-spec =
@@ -46,7 +46,7 @@ with-facility-spec =
     enum-told-2
     enum-known-f
     enum-known-f-2
-    enum-known-f-3
+    enum-told-3
     returns
     returns-2
     returns-3
