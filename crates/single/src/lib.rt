@@ -9,15 +9,8 @@ fn more_in(k: Kind) -> Single
     ensures { λ r. ⌜ r ≡ moreIn k ⌝ }
 {
     match k {
-        Kind::Alerting => Single::Absent,
-        Kind::CallProceeding => Single::Absent,
-        Kind::Setup => Single::Absent,
-        Kind::Connect => Single::Absent,
         Kind::UserInformation => Single::MoreData,
-        Kind::Disconnect => Single::Absent,
-        Kind::ReleaseComplete => Single::Absent,
-        Kind::Facility => Single::Absent,
-        Kind::CongestionControl => Single::Absent,
+        _ => Single::Absent,
     }
 }
 
@@ -26,15 +19,8 @@ fn level_in(k: Kind, level: Single) -> Single
     ensures { λ r. ⌜ r ≡ levelIn k level ⌝ }
 {
     match k {
-        Kind::Alerting => Single::Absent,
-        Kind::CallProceeding => Single::Absent,
-        Kind::Setup => Single::Absent,
-        Kind::Connect => Single::Absent,
-        Kind::UserInformation => Single::Absent,
-        Kind::Disconnect => Single::Absent,
-        Kind::ReleaseComplete => Single::Absent,
-        Kind::Facility => Single::Absent,
         Kind::CongestionControl => level,
+        _ => Single::Absent,
     }
 }
 
@@ -55,8 +41,6 @@ pub fn first_single(s: Single, new: Single) -> Single
 {
     match s {
         Single::Absent => new,
-        Single::MoreData => Single::MoreData,
-        Single::Ready => Single::Ready,
-        Single::NotReady => Single::NotReady,
+        _ => s,
     }
 }
