@@ -15,7 +15,7 @@ use Rattle.trace.specs.declared.reading.Entry.{Entry}
 use Rattle.trace.specs.declared.reading.Fault.{Fault}
 use Rattle.trace.specs.declared.reading.Record.{Record}
 use Rattle.body.specs.Kind.{kindOf, sizeOf}
-use Rattle.trace.specs.Reading.{referenceOf, fieldAtOf, placeOf, setupRangedOf, answeringRangedOf, informationRangedOf, facilityRangedOf, disconnectRangedOf, rangedOf, rightsOf, eventOf, countOf, entryOf, namedOf, recordOf}
+use Rattle.trace.specs.Reading.{referenceOf, fieldAtOf, placeOf, closesOf, rangedOf, rightsOf, requestsOf, answersOf, eventOf, countOf, entryOf, namedOf, recordOf}
 use Rattle.recorded.specs.Recorded.{elementOf}
 use Rattle.trace.specs.Promises.{Field, InRange}
 use Rattle.body.proofs.Sizes.{least}
@@ -37,14 +37,17 @@ module _ (t more : List ℕ) where
   unfolding fieldAtOf
   same-field p h = rw (drop-append-le p t more (omega arith), take-append-le 132 (drop p t) more (rw length-drop (omega arith)))
 
+  same-closes : (p : ℕ) → p + 135 ≤ length t → closesOf p (t ++ more) ≡ closesOf p t
+  unfolding closesOf
+  same-closes p h = rw (same p (omega arith), same (p + 1) (omega arith), same (p + 2) (omega arith), same-field (p + 3) (omega arith))
+
   same-ranged : (k : Kind) → sizeOf k ≤ length t → rangedOf k (t ++ more) ≡ rangedOf k t
-  unfolding setupRangedOf answeringRangedOf informationRangedOf facilityRangedOf disconnectRangedOf
-  same-ranged Kind.Setup h = rw (same 4 (omega arith), same 5 (omega arith), same 9 (omega arith), same 10 (omega arith), same 11 (omega arith), same-field 12 (omega arith))
-  same-ranged Kind.Alerting h = rw (same 3 (omega arith), same 4 (omega arith), same 5 (omega arith), same-field 6 (omega arith))
-  same-ranged Kind.Connect h = rw (same 3 (omega arith), same 4 (omega arith), same 5 (omega arith), same-field 6 (omega arith))
+  same-ranged Kind.Setup h = rw (same 4 (omega arith), same 5 (omega arith), same-closes 9 (omega arith))
+  same-ranged Kind.Alerting h = same-closes 3 (omega arith)
+  same-ranged Kind.Connect h = same-closes 3 (omega arith)
   same-ranged Kind.Information h = rw (same 3 (omega arith), same-field 4 (omega arith))
   same-ranged Kind.Facility h = rw (same 3 (omega arith), same 4 (omega arith))
-  same-ranged Kind.Disconnect h = rw (same 3 (omega arith), same 4 (omega arith), same 5 (omega arith), same 6 (omega arith), same 7 (omega arith), same-field 8 (omega arith))
+  same-ranged Kind.Disconnect h = rw (same 3 (omega arith), same 4 (omega arith), same-closes 5 (omega arith))
   same-ranged Kind.ReleaseComplete h = rw (same 3 (omega arith))
   same-ranged Kind.Tick h = refl
 
@@ -52,26 +55,33 @@ module _ (t more : List ℕ) where
   unfolding referenceOf
   same-reference h = rw (same 1 (omega arith), same 2 (omega arith))
 
-  same-event : (k : Kind) → sizeOf k ≤ length t → eventOf k (t ++ more) ≡ eventOf k t
+  same-requests : (p : ℕ) → p + 3 ≤ length t → requestsOf p (t ++ more) ≡ requestsOf p t
+  unfolding requestsOf
+  same-requests p h = rw (same p (omega arith), same (p + 1) (omega arith), same (p + 2) (omega arith))
+
+  same-answers : (p : ℕ) → p + 3 ≤ length t → answersOf p (t ++ more) ≡ answersOf p t
+  unfolding answersOf
+  same-answers p h = rw (same p (omega arith), same (p + 1) (omega arith), same (p + 2) (omega arith))
+
+  same-rights : 9 ≤ length t → rightsOf (t ++ more) ≡ rightsOf t
   unfolding rightsOf
-  same-event Kind.Setup h =
+  same-rights h =
       rw (
-        same-reference (omega arith),
         same 3 (omega arith),
         same 4 (omega arith),
         same 5 (omega arith),
         same 6 (omega arith),
         same 7 (omega arith),
         same 8 (omega arith),
-        same 9 (omega arith),
-        same 10 (omega arith),
-        same 11 (omega arith),
       )
-  same-event Kind.Alerting h = rw (same 3 (omega arith), same 4 (omega arith), same 5 (omega arith))
-  same-event Kind.Connect h = rw (same 3 (omega arith), same 4 (omega arith), same 5 (omega arith))
+
+  same-event : (k : Kind) → sizeOf k ≤ length t → eventOf k (t ++ more) ≡ eventOf k t
+  same-event Kind.Setup h = rw (same-reference (omega arith), same-rights (omega arith), same-requests 9 (omega arith))
+  same-event Kind.Alerting h = rw (same-answers 3 (omega arith))
+  same-event Kind.Connect h = rw (same-answers 3 (omega arith))
   same-event Kind.Information h = rw (same 3 (omega arith))
   same-event Kind.Facility h = rw (same 3 (omega arith), same 4 (omega arith))
-  same-event Kind.Disconnect h = rw (same 3 (omega arith), same 4 (omega arith), same 5 (omega arith), same 6 (omega arith), same 7 (omega arith))
+  same-event Kind.Disconnect h = rw (same 3 (omega arith), same 4 (omega arith), same-answers 5 (omega arith))
   same-event Kind.ReleaseComplete h = rw (same 3 (omega arith))
   same-event Kind.Tick h = refl
 

@@ -28,7 +28,7 @@ use Rattle.exchange.specs.Step.{stepOutcome, stepTable}
 use Rattle.body.specs.Kind.{kindOf}
 use Rattle.body.specs.Field.{blankOf, fieldFitsOf}
 use Rattle.values.specs.Values.{flagOf, requestOf}
-use Rattle.trace.specs.Reading.{referenceOf, threeFitOf, fieldAtOf, setupRangedOf, rightsOf, requestsOf, countOf, entryOf, recordOf}
+use Rattle.trace.specs.Reading.{referenceOf, fieldAtOf, closesOf, rightsOf, requestsOf, countOf, entryOf, recordOf}
 use Rattle.recorded.specs.Recorded.{elementOf}
 use Rattle.trace.proofs.Tests.{both}
 use Rattle.text.specs.Decimal.{digitsOf, decimalOf}
@@ -53,7 +53,7 @@ all-octets (x ∷ t) h (suc i) = all-octets t (both (ltb x 256) (below t) h .1) 
 
 -- the first part is read, and its line is printed where it fits exactly; the tick waits for the second; what is left of that is the last
 ran : (explained : Bool) → Ran explained (onePart ++ otherPart ++ []) (lines explained)
-unfolding emptyOf meterFitsOf wellFormedOf seenOf goesOutOf rightsFitOf referenceFitsOf remainsOf firstStandingOf standingsOf lacksOf passedRequestsOf networkRefusalsOf nobodyAsks sayingOf onlyIfOf noRights noServices emptyMeters freshCall fieldsFitOf soundOf barOf refusedOf heardOf setupPhaseOf filledOf toCallerOf toCalledOf setupCarriesOf proceedsOf setupOf metersOf refillsOf readyOf runsOf passesTickOf tickOf tableSound chooseOf chosenOf subjectOf keptOf outcomeOf refusalOf settledOf stepOutcome stepTable kindOf flagOf requestOf blankOf fieldFitsOf referenceOf threeFitOf fieldAtOf setupRangedOf rightsOf requestsOf countOf entryOf recordOf elementOf digitsOf decimalOf digitOf itemsOf commas joined numberColumns typeColumns lineOf frontOf turnedAt columnsOf lineAt runIn runOf
+unfolding emptyOf meterFitsOf wellFormedOf seenOf goesOutOf rightsFitOf referenceFitsOf remainsOf firstStandingOf standingsOf lacksOf passedRequestsOf networkRefusalsOf nobodyAsks sayingOf onlyIfOf noRights noServices emptyMeters freshCall fieldsFitOf soundOf barOf refusedOf heardOf setupPhaseOf filledOf toCallerOf toCalledOf setupCarriesOf proceedsOf setupOf metersOf refillsOf readyOf runsOf passesTickOf tickOf tableSound chooseOf chosenOf subjectOf keptOf outcomeOf refusalOf settledOf stepOutcome stepTable kindOf flagOf requestOf blankOf fieldFitsOf referenceOf fieldAtOf closesOf rightsOf requestsOf countOf entryOf recordOf elementOf digitsOf decimalOf digitOf itemsOf commas joined numberColumns typeColumns lineOf frontOf turnedAt columnsOf lineAt runIn runOf
 ran false =
     record {
       left = _;

@@ -12,7 +12,7 @@ use lib.Dec.{ltb, leb, eqb}
 use Rattle.body.specs.declared.kind.Kind.{Kind}
 use Rattle.body.specs.Kind.{sizeOf}
 use Rattle.body.specs.Field.{blankOf, fieldFitsOf}
-use Rattle.trace.specs.Reading.{threeFitOf, fieldAtOf, setupRangedOf, answeringRangedOf, informationRangedOf, facilityRangedOf, disconnectRangedOf, rangedOf}
+use Rattle.trace.specs.Reading.{fieldAtOf, closesOf, rangedOf}
 use Rattle.trace.specs.Promises.{Zeros, Field, Three, InRange}
 use Rattle.trace.proofs.Tests.{both, if-so, if-not}
 
@@ -121,50 +121,45 @@ module _ (t : List ℕ) (p : ℕ) (there : p + 132 ≤ length t) where
       held-fits n n-is (w .least) (w .most) (second-is 1 (omega arith) ∙ w .first) (second-is 2 (omega arith) ∙ w .second) (rw q at (f .after)))
       (f .element)
 
--- three octets
-three-in : (t : List ℕ) (p : ℕ) → threeFitOf (getD t p 0) (getD t (p + 1) 0) (getD t (p + 2) 0) ≡ true → Three t p
-unfolding threeFitOf
-three-in t p h =
-    let a = both (leb (getD t p 0) 2 && leb (getD t (p + 1) 0) 2) (leb (getD t (p + 2) 0) 2) h in
-    let b = both (leb (getD t p 0) 2) (leb (getD t (p + 1) 0) 2) (a .0) in
-    record { one = leb-true _ _ (b .0); two = leb-true _ _ (b .1); three = leb-true _ _ (a .1) }
+-- three octets, and the element field after them
+closes-in : (t : List ℕ) (p : ℕ) → p + 135 ≤ length t → closesOf p t ≡ true → Three t p × Field t (p + 3)
+unfolding closesOf
+closes-in t p s h =
+    let a = both _ (fieldAtOf (p + 3) t) h in
+    let b = both _ (leb (getD t (p + 2) 0) 2) (a .0) in
+    let c = both (leb (getD t p 0) 2) (leb (getD t (p + 1) 0) 2) (b .0) in
+    (record { one = leb-true _ _ (c .0); two = leb-true _ _ (c .1); three = leb-true _ _ (b .1) }, field-in t (p + 3) (omega arith) (a .1))
 
-three-fits : (t : List ℕ) (p : ℕ) → Three t p → threeFitOf (getD t p 0) (getD t (p + 1) 0) (getD t (p + 2) 0) ≡ true
-unfolding threeFitOf
-three-fits t p h = simp (le-leb _ _ (h .one), le-leb _ _ (h .two), le-leb _ _ (h .three))
+closes : (t : List ℕ) (p : ℕ) → p + 135 ≤ length t → Three t p → Field t (p + 3) → closesOf p t ≡ true
+unfolding closesOf
+closes t p s h f = simp (le-leb _ _ (h .one), le-leb _ _ (h .two), le-leb _ _ (h .three), field-fits t (p + 3) (omega arith) f)
 
 pub in-range : (k : Kind) (t : List ℕ) → sizeOf k ≤ length t → rangedOf k t ≡ true → InRange k t
-unfolding setupRangedOf answeringRangedOf informationRangedOf facilityRangedOf disconnectRangedOf
 in-range Kind.Setup t s h =
-    let a = both _ (fieldAtOf 12 t) h in
-    let b = both _ (threeFitOf (getD t 9 0) (getD t 10 0) (getD t 11 0)) (a .0) in
-    let c = both (leb (getD t 4 0) 1) (leb (getD t 5 0) 1) (b .0) in
-    (leb-true _ _ (c .0), leb-true _ _ (c .1), three-in t 9 (b .1), field-in t 12 (omega arith) (a .1))
-in-range Kind.Alerting t s h =
-    let a = both (threeFitOf (getD t 3 0) (getD t 4 0) (getD t 5 0)) (fieldAtOf 6 t) h in
-    (three-in t 3 (a .0), field-in t 6 (omega arith) (a .1))
-in-range Kind.Connect t s h =
-    let a = both (threeFitOf (getD t 3 0) (getD t 4 0) (getD t 5 0)) (fieldAtOf 6 t) h in
-    (three-in t 3 (a .0), field-in t 6 (omega arith) (a .1))
+    let a = both _ (closesOf 9 t) h in
+    let b = both (leb (getD t 4 0) 1) (leb (getD t 5 0) 1) (a .0) in
+    let c = closes-in t 9 (omega arith) (a .1) in
+    (leb-true _ _ (b .0), leb-true _ _ (b .1), c .0, c .1)
+in-range Kind.Alerting t s h = closes-in t 3 (omega arith) h
+in-range Kind.Connect t s h = closes-in t 3 (omega arith) h
 in-range Kind.Information t s h =
     let a = both (leb (getD t 3 0) 1) (fieldAtOf 4 t) h in (leb-true _ _ (a .0), field-in t 4 (omega arith) (a .1))
 in-range Kind.Facility t s h =
     let a = both (leb (getD t 3 0) 1) (leb (getD t 4 0) 3) h in (leb-true _ _ (a .0), leb-true _ _ (a .1))
 in-range Kind.Disconnect t s h =
-    let a = both _ (fieldAtOf 8 t) h in
-    let b = both _ (threeFitOf (getD t 5 0) (getD t 6 0) (getD t 7 0)) (a .0) in
-    let c = both (leb (getD t 3 0) 1) (leb (getD t 4 0) 127) (b .0) in
-    (leb-true _ _ (c .0), leb-true _ _ (c .1), three-in t 5 (b .1), field-in t 8 (omega arith) (a .1))
+    let a = both _ (closesOf 5 t) h in
+    let b = both (leb (getD t 3 0) 1) (leb (getD t 4 0) 127) (a .0) in
+    let c = closes-in t 5 (omega arith) (a .1) in
+    (leb-true _ _ (b .0), leb-true _ _ (b .1), c .0, c .1)
 in-range Kind.ReleaseComplete t s h = leb-true _ _ h
 in-range Kind.Tick t s h = tt
 
 pub ranged : (k : Kind) (t : List ℕ) → sizeOf k ≤ length t → InRange k t → rangedOf k t ≡ true
-unfolding setupRangedOf answeringRangedOf informationRangedOf facilityRangedOf disconnectRangedOf
-ranged Kind.Setup t s h = simp (le-leb _ _ (h .0), le-leb _ _ (h .1), three-fits t 9 (h .2), field-fits t 12 (omega arith) (h .3))
-ranged Kind.Alerting t s h = simp (three-fits t 3 (h .0), field-fits t 6 (omega arith) (h .1))
-ranged Kind.Connect t s h = simp (three-fits t 3 (h .0), field-fits t 6 (omega arith) (h .1))
+ranged Kind.Setup t s h = simp (le-leb _ _ (h .0), le-leb _ _ (h .1), closes t 9 (omega arith) (h .2) (h .3))
+ranged Kind.Alerting t s h = closes t 3 (omega arith) (h .0) (h .1)
+ranged Kind.Connect t s h = closes t 3 (omega arith) (h .0) (h .1)
 ranged Kind.Information t s h = simp (le-leb _ _ (h .0), field-fits t 4 (omega arith) (h .1))
 ranged Kind.Facility t s h = simp (le-leb _ _ (h .0), le-leb _ _ (h .1))
-ranged Kind.Disconnect t s h = simp (le-leb _ _ (h .0), le-leb _ _ (h .1), three-fits t 5 (h .2), field-fits t 8 (omega arith) (h .3))
+ranged Kind.Disconnect t s h = simp (le-leb _ _ (h .0), le-leb _ _ (h .1), closes t 5 (omega arith) (h .2) (h .3))
 ranged Kind.ReleaseComplete t s h = le-leb _ _ h
 ranged Kind.Tick t s h = refl

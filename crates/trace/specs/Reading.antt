@@ -27,10 +27,6 @@ faultNumber Fault.Range = 33
 unfoldable pub referenceOf : List ℕ → ℕ
 referenceOf t = getD t 1 0 * 256 + getD t 2 0
 
--- three requests or answers from a place on, each at most 2
-unfoldable pub threeFitOf : ℕ → ℕ → ℕ → Bool
-threeFitOf a b c = (leb a 2 && leb b 2) && leb c 2
-
 -- the element field at a place
 unfoldable pub fieldAtOf : ℕ → List ℕ → Bool
 fieldAtOf p t = fieldFitsOf (take fieldSize (drop p t))
@@ -46,31 +42,18 @@ placeOf Kind.Disconnect = 8
 placeOf Kind.ReleaseComplete = 0
 placeOf Kind.Tick = 0
 
+-- three requests or answers from a place on, each at most 2, and then the element field
+unfoldable pub closesOf : ℕ → List ℕ → Bool
+closesOf p t = ((leb (getD t p 0) 2 && leb (getD t (p + 1) 0) 2) && leb (getD t (p + 2) 0) 2) && fieldAtOf (p + 3) t
+
 -- "33: late, leave or side over 1, request or answer over 2, what over 3, cause over 127, element field not of that form."
-unfoldable pub setupRangedOf : List ℕ → Bool
-setupRangedOf t =
-    ((leb (getD t 4 0) 1 && leb (getD t 5 0) 1) && threeFitOf (getD t 9 0) (getD t 10 0) (getD t 11 0)) && fieldAtOf 12 t
-
-unfoldable pub answeringRangedOf : List ℕ → Bool
-answeringRangedOf t = threeFitOf (getD t 3 0) (getD t 4 0) (getD t 5 0) && fieldAtOf 6 t
-
-unfoldable pub informationRangedOf : List ℕ → Bool
-informationRangedOf t = leb (getD t 3 0) 1 && fieldAtOf 4 t
-
-unfoldable pub facilityRangedOf : List ℕ → Bool
-facilityRangedOf t = leb (getD t 3 0) 1 && leb (getD t 4 0) 3
-
-unfoldable pub disconnectRangedOf : List ℕ → Bool
-disconnectRangedOf t =
-    ((leb (getD t 3 0) 1 && leb (getD t 4 0) 127) && threeFitOf (getD t 5 0) (getD t 6 0) (getD t 7 0)) && fieldAtOf 8 t
-
 abbrev pub rangedOf : Kind → List ℕ → Bool
-rangedOf Kind.Setup t = setupRangedOf t
-rangedOf Kind.Alerting t = answeringRangedOf t
-rangedOf Kind.Connect t = answeringRangedOf t
-rangedOf Kind.Information t = informationRangedOf t
-rangedOf Kind.Facility t = facilityRangedOf t
-rangedOf Kind.Disconnect t = disconnectRangedOf t
+rangedOf Kind.Setup t = (leb (getD t 4 0) 1 && leb (getD t 5 0) 1) && closesOf 9 t
+rangedOf Kind.Alerting t = closesOf 3 t
+rangedOf Kind.Connect t = closesOf 3 t
+rangedOf Kind.Information t = leb (getD t 3 0) 1 && fieldAtOf 4 t
+rangedOf Kind.Facility t = leb (getD t 3 0) 1 && leb (getD t 4 0) 3
+rangedOf Kind.Disconnect t = (leb (getD t 3 0) 1 && leb (getD t 4 0) 127) && closesOf 5 t
 rangedOf Kind.ReleaseComplete t = leb (getD t 3 0) 1
 rangedOf Kind.Tick t = true
 
@@ -86,21 +69,21 @@ rightsOf t =
       refill = getD t 8 0;
     }
 
-unfoldable pub requestsOf : ℕ → ℕ → ℕ → Requests
-requestsOf a b c = record { one = requestOf a; two = requestOf b; three = requestOf c }
+-- three of them from a place on
+unfoldable pub requestsOf : ℕ → List ℕ → Requests
+requestsOf p t = record { one = requestOf (getD t p 0); two = requestOf (getD t (p + 1) 0); three = requestOf (getD t (p + 2) 0) }
 
-unfoldable pub answersOf : ℕ → ℕ → ℕ → Answers
-answersOf a b c = record { one = givenOf a; two = givenOf b; three = givenOf c }
+unfoldable pub answersOf : ℕ → List ℕ → Answers
+answersOf p t = record { one = givenOf (getD t p 0); two = givenOf (getD t (p + 1) 0); three = givenOf (getD t (p + 2) 0) }
 
 -- "2 and 3: three answers. 4: side. 5: side, what. 6: side, cause, answers. 7: side." More data is in no trace.
 abbrev pub eventOf : Kind → List ℕ → Event
-eventOf Kind.Setup t = Event.Setup (referenceOf t) (rightsOf t) (requestsOf (getD t 9 0) (getD t 10 0) (getD t 11 0))
-eventOf Kind.Alerting t = Event.Alerting (answersOf (getD t 3 0) (getD t 4 0) (getD t 5 0))
-eventOf Kind.Connect t = Event.Connect (answersOf (getD t 3 0) (getD t 4 0) (getD t 5 0))
+eventOf Kind.Setup t = Event.Setup (referenceOf t) (rightsOf t) (requestsOf 9 t)
+eventOf Kind.Alerting t = Event.Alerting (answersOf 3 t)
+eventOf Kind.Connect t = Event.Connect (answersOf 3 t)
 eventOf Kind.Information t = Event.Information (sideOf (getD t 3 0)) false
 eventOf Kind.Facility t = Event.Facility (sideOf (getD t 3 0)) (whatOf (getD t 4 0))
-eventOf Kind.Disconnect t =
-    Event.Disconnect (sideOf (getD t 3 0)) (getD t 4 0) (answersOf (getD t 5 0) (getD t 6 0) (getD t 7 0))
+eventOf Kind.Disconnect t = Event.Disconnect (sideOf (getD t 3 0)) (getD t 4 0) (answersOf 5 t)
 eventOf Kind.ReleaseComplete t = Event.ReleaseComplete (sideOf (getD t 3 0))
 eventOf Kind.Tick t = Event.Tick
 

@@ -3,9 +3,8 @@ ghost use mathlib.Core.Path.{_≡_};
 ghost use Prim.Native.Nat.{_≤_, _<_, _+_};
 ghost use lib.ListN.{length};
 ghost use Rattle.body.specs.Kind.{sizeOf};
-ghost use Rattle.body.specs.declared.kind.Kind.{Kind};
 ghost use Rattle.body.specs.declared.kind.Named.{Named};
-ghost use Rattle.trace.specs.Reading.{referenceOf, threeFitOf, fieldAtOf, placeOf, setupRangedOf, answeringRangedOf, informationRangedOf, facilityRangedOf, disconnectRangedOf, rangedOf, rightsOf, namedOf, requestsOf, answersOf, eventOf, countOf, entryOf, recordOf};
+ghost use Rattle.trace.specs.Reading.{referenceOf, fieldAtOf, placeOf, closesOf, rangedOf, rightsOf, namedOf, requestsOf, answersOf, eventOf, countOf, entryOf, recordOf};
 use body::field::field_fits;
 use body::kind::Kind;
 use body::kind::Named;
@@ -62,12 +61,6 @@ fn reference(t: &[u8]) -> u16
     wide16(t[1]) * 256 + wide16(t[2])
 }
 
-fn three_fit(a: u8, b: u8, c: u8) -> bool
-    ensures { λ r. ⌜ r ≡ threeFitOf a b c ⌝ }
-{
-    (a <= 2) & (b <= 2) & (c <= 2)
-}
-
 fn field_at(t: &[u8], p: usize) -> bool
     requires { ⌜ p + 132 ≤ length (now t) ⌝ }
     ensures { λ r. ⌜ r ≡ fieldAtOf p (now (t .entry)) ⌝ }
@@ -76,39 +69,12 @@ fn field_at(t: &[u8], p: usize) -> bool
     field_fits(&t[p..e])
 }
 
-fn setup_ranged(t: &[u8]) -> bool
-    requires { ⌜ 144 ≤ length (now t) ⌝ }
-    ensures { λ r. ⌜ r ≡ setupRangedOf (now (t .entry)) ⌝ }
+// Three requests or answers from a place on, and then the element field.
+fn closes(t: &[u8], p: usize) -> bool
+    requires { ⌜ p + 135 ≤ length (now t) ⌝ }
+    ensures { λ r. ⌜ r ≡ closesOf p (now (t .entry)) ⌝ }
 {
-    (t[4] <= 1) & (t[5] <= 1) & three_fit(t[9], t[10], t[11]) & field_at(t, 12)
-}
-
-fn answering_ranged(t: &[u8]) -> bool
-    requires { ⌜ 138 ≤ length (now t) ⌝ }
-    ensures { λ r. ⌜ r ≡ answeringRangedOf (now (t .entry)) ⌝ }
-{
-    three_fit(t[3], t[4], t[5]) & field_at(t, 6)
-}
-
-fn information_ranged(t: &[u8]) -> bool
-    requires { ⌜ 136 ≤ length (now t) ⌝ }
-    ensures { λ r. ⌜ r ≡ informationRangedOf (now (t .entry)) ⌝ }
-{
-    (t[3] <= 1) & field_at(t, 4)
-}
-
-fn facility_ranged(t: &[u8]) -> bool
-    requires { ⌜ 5 ≤ length (now t) ⌝ }
-    ensures { λ r. ⌜ r ≡ facilityRangedOf (now (t .entry)) ⌝ }
-{
-    (t[3] <= 1) & (t[4] <= 3)
-}
-
-fn disconnect_ranged(t: &[u8]) -> bool
-    requires { ⌜ 140 ≤ length (now t) ⌝ }
-    ensures { λ r. ⌜ r ≡ disconnectRangedOf (now (t .entry)) ⌝ }
-{
-    (t[3] <= 1) & (t[4] <= 127) & three_fit(t[5], t[6], t[7]) & field_at(t, 8)
+    (t[p] <= 2) & (t[p + 1] <= 2) & (t[p + 2] <= 2) & field_at(t, p + 3)
 }
 
 // Whether every field of a record that is all there is in range.
@@ -117,12 +83,12 @@ fn ranged(k: Kind, t: &[u8]) -> bool
     ensures { λ r. ⌜ r ≡ rangedOf k (now (t .entry)) ⌝ }
 {
     match k {
-        Kind::Setup => setup_ranged(t),
-        Kind::Alerting => answering_ranged(t),
-        Kind::Connect => answering_ranged(t),
-        Kind::Information => information_ranged(t),
-        Kind::Facility => facility_ranged(t),
-        Kind::Disconnect => disconnect_ranged(t),
+        Kind::Setup => (t[4] <= 1) & (t[5] <= 1) & closes(t, 9),
+        Kind::Alerting => closes(t, 3),
+        Kind::Connect => closes(t, 3),
+        Kind::Information => (t[3] <= 1) & field_at(t, 4),
+        Kind::Facility => (t[3] <= 1) & (t[4] <= 3),
+        Kind::Disconnect => (t[3] <= 1) & (t[4] <= 127) & closes(t, 5),
         Kind::ReleaseComplete => t[3] <= 1,
         Kind::Tick => true,
     }
@@ -137,45 +103,30 @@ fn rights(t: &[u8]) -> Rights
         late: flag_in(t[4]),
         leave: flag_in(t[5]),
         limit: t[6],
-        burst: burst(t[7]),
-        refill: burst(t[8]),
+        burst: wide16(t[7]),
+        refill: wide16(t[8]),
     }
 }
 
-fn burst(x: u8) -> u16
-    ensures { λ r. ⌜ r ≡ x ⌝ }
-{
-    x as u16
-}
-
-fn requests(a: u8, b: u8, c: u8) -> Requests
-    ensures { λ r. ⌜ r ≡ requestsOf a b c ⌝ }
+fn requests(t: &[u8], p: usize) -> Requests
+    requires { ⌜ p + 3 ≤ length (now t) ⌝ }
+    ensures { λ r. ⌜ r ≡ requestsOf p (now (t .entry)) ⌝ }
 {
     Requests {
-        one: request_in(a),
-        two: request_in(b),
-        three: request_in(c),
+        one: request_in(t[p]),
+        two: request_in(t[p + 1]),
+        three: request_in(t[p + 2]),
     }
 }
 
-fn answers(a: u8, b: u8, c: u8) -> Answers
-    ensures { λ r. ⌜ r ≡ answersOf a b c ⌝ }
+fn answers(t: &[u8], p: usize) -> Answers
+    requires { ⌜ p + 3 ≤ length (now t) ⌝ }
+    ensures { λ r. ⌜ r ≡ answersOf p (now (t .entry)) ⌝ }
 {
     Answers {
-        one: given_in(a),
-        two: given_in(b),
-        three: given_in(c),
-    }
-}
-
-fn setup_event(t: &[u8]) -> Event
-    requires { ⌜ 144 ≤ length (now t) ⌝ }
-    ensures { λ r. ⌜ r ≡ eventOf Kind.Setup (now (t .entry)) ⌝ }
-{
-    Event::Setup {
-        reference: reference(t),
-        rights: rights(t),
-        requests: requests(t[9], t[10], t[11]),
+        one: given_in(t[p]),
+        two: given_in(t[p + 1]),
+        three: given_in(t[p + 2]),
     }
 }
 
@@ -185,12 +136,16 @@ fn event(k: Kind, t: &[u8]) -> Event
     ensures { λ r. ⌜ r ≡ eventOf k (now (t .entry)) ⌝ }
 {
     match k {
-        Kind::Setup => setup_event(t),
+        Kind::Setup => Event::Setup {
+            reference: reference(t),
+            rights: rights(t),
+            requests: requests(t, 9),
+        },
         Kind::Alerting => Event::Alerting {
-            answers: answers(t[3], t[4], t[5]),
+            answers: answers(t, 3),
         },
         Kind::Connect => Event::Connect {
-            answers: answers(t[3], t[4], t[5]),
+            answers: answers(t, 3),
         },
         Kind::Information => Event::Information {
             side: side_in(t[3]),
@@ -203,7 +158,7 @@ fn event(k: Kind, t: &[u8]) -> Event
         Kind::Disconnect => Event::Disconnect {
             side: side_in(t[3]),
             cause: t[4],
-            answers: answers(t[5], t[6], t[7]),
+            answers: answers(t, 5),
         },
         Kind::ReleaseComplete => Event::ReleaseComplete {
             side: side_in(t[3]),

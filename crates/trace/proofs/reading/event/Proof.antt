@@ -2,48 +2,30 @@ use native.Mathlib.Omega.{arith}
 use borrow.Author.Needs.{needs}
 use Rattle.trace.proofs.reading.event.Statement.{statement}
 use Rattle.trace.proofs.reading.event.Tie as tie
-use Rattle.trace.proofs.reading.event.Reads as reads
-use Rattle.trace.proofs.reading.event.Lts as lts
-use Rattle.values.proofs.side_in.Reads as side-in-reads
-use Rattle.values.proofs.what_in.Reads as what-in-reads
-use Rattle.trace.proofs.reading.answers.Reads as answers-reads
-use Rattle.trace.proofs.reading.setup_event.Reads as setup-event-reads
 
 enum-told : tie.Need-enum-told
 enum-told c = search needs
 
-setup-event-requires : tie.Need-setup-event-requires
-setup-event-requires c κs = let h = rw (c .enum-told .given .1) at (c .before .before .before .pre) in omega arith
+reference-requires : tie.Need-reference-requires
+reference-requires c κs = let h = rw (c .enum-told .given .1) at (c .before .before .before .pre) in omega arith
+
+rights-requires : tie.Need-rights-requires
+rights-requires c κs = let h = rw (c .before .enum-told .given .1) at (c .before .before .before .before .pre) in omega arith
+
+requests-requires : tie.Need-requests-requires
+requests-requires c κs = let h = rw (c .before .before .enum-told .given .1) at (c .before .before .before .before .before .pre) in omega arith
 
 enum-told-2 : tie.Need-enum-told-2
 enum-told-2 c = search needs
 
-shared-slice-read-answers : tie.Need-shared-slice-read-answers
-shared-slice-read-answers c = let h = rw (c .before .enum-told2 .given .1) at (c .before .before .before .before .pre) in omega arith
-
-shared-slice-read-answers-2 : tie.Need-shared-slice-read-answers-2
-shared-slice-read-answers-2 c = let h = rw (c .before .before .enum-told2 .given .1) at (c .before .before .before .before .before .pre) in omega arith
-
-shared-slice-read-answers-3 : tie.Need-shared-slice-read-answers-3
-shared-slice-read-answers-3 c = let h = rw (c .before .before .before .enum-told2 .given .1) at (c .before .before .before .before .before .before .pre) in omega arith
-
 answers-requires : tie.Need-answers-requires
-answers-requires c κs = search needs
+answers-requires c κs = let h = rw (c .enum-told2 .given .1) at (c .before .before .before .pre) in omega arith
 
 enum-told-3 : tie.Need-enum-told-3
 enum-told-3 c = search needs
 
-shared-slice-read-answers-4 : tie.Need-shared-slice-read-answers-4
-shared-slice-read-answers-4 c = let h = rw (c .before .enum-told3 .given .1) at (c .before .before .before .before .pre) in omega arith
-
-shared-slice-read-answers-5 : tie.Need-shared-slice-read-answers-5
-shared-slice-read-answers-5 c = let h = rw (c .before .before .enum-told3 .given .1) at (c .before .before .before .before .before .pre) in omega arith
-
-shared-slice-read-answers-6 : tie.Need-shared-slice-read-answers-6
-shared-slice-read-answers-6 c = let h = rw (c .before .before .before .enum-told3 .given .1) at (c .before .before .before .before .before .before .pre) in omega arith
-
 answers-requires-2 : tie.Need-answers-requires-2
-answers-requires-2 c κs = search needs
+answers-requires-2 c κs = let h = rw (c .enum-told3 .given .1) at (c .before .before .before .pre) in omega arith
 
 enum-told-4 : tie.Need-enum-told-4
 enum-told-4 c = search needs
@@ -78,20 +60,11 @@ shared-slice-read-side-in-3 c = let h = rw (c .before .enum-told6 .given .1) at 
 side-in-requires-3 : tie.Need-side-in-requires-3
 side-in-requires-3 c κs = search needs
 
-shared-slice-read-t31 : tie.Need-shared-slice-read-t31
-shared-slice-read-t31 c = let h = rw (c .before .before .before .enum-told6 .given .1) at (c .before .before .before .before .before .before .pre) in omega arith
-
-shared-slice-read-answers-7 : tie.Need-shared-slice-read-answers-7
-shared-slice-read-answers-7 c = let h = rw (c .before .before .before .before .enum-told6 .given .1) at (c .before .before .before .before .before .before .before .pre) in omega arith
-
-shared-slice-read-answers-8 : tie.Need-shared-slice-read-answers-8
-shared-slice-read-answers-8 c = let h = rw (c .before .before .before .before .before .enum-told6 .given .1) at (c .before .before .before .before .before .before .before .before .pre) in omega arith
-
-shared-slice-read-answers-9 : tie.Need-shared-slice-read-answers-9
-shared-slice-read-answers-9 c = let h = rw (c .before .before .before .before .before .before .enum-told6 .given .1) at (c .before .before .before .before .before .before .before .before .before .pre) in omega arith
+shared-slice-read-t22 : tie.Need-shared-slice-read-t22
+shared-slice-read-t22 c = let h = rw (c .before .before .before .enum-told6 .given .1) at (c .before .before .before .before .before .before .pre) in omega arith
 
 answers-requires-3 : tie.Need-answers-requires-3
-answers-requires-3 c κs = search needs
+answers-requires-3 c κs = let h = rw (c .before .before .before .enum-told6 .given .1) at (c .before .before .before .before .before .before .pre) in omega arith
 
 enum-told-7 : tie.Need-enum-told-7
 enum-told-7 c = search needs
@@ -106,13 +79,13 @@ enum-told-8 : tie.Need-enum-told-8
 enum-told-8 c = search needs
 
 returns : tie.Need-returns
-returns c = simp (c .setup-event .ensures, c .before .enum-told .given .1)
+returns c = simp (c .requests .ensures, c .before .rights .ensures, c .before .before .reference .ensures, c .before .before .before .enum-told .given .1)
 
 returns-2 : tie.Need-returns-2
-returns-2 c = simp (c .answers .ensures, c .before .before .before .before .enum-told2 .given .1)
+returns-2 c = simp (c .answers .ensures, c .before .enum-told2 .given .1)
 
 returns-3 : tie.Need-returns-3
-returns-3 c = simp (c .answers2 .ensures, c .before .before .before .before .enum-told3 .given .1)
+returns-3 c = simp (c .answers2 .ensures, c .before .enum-told3 .given .1)
 
 returns-4 : tie.Need-returns-4
 returns-4 c = simp (c .side-in .ensures, c .before .before .enum-told4 .given .1)
@@ -121,7 +94,7 @@ returns-5 : tie.Need-returns-5
 returns-5 c = simp (c .what-in .ensures, c .before .before .side-in2 .ensures, c .before .before .before .before .enum-told5 .given .1)
 
 returns-6 : tie.Need-returns-6
-returns-6 c = simp (c .answers3 .ensures, c .before .before .before .before .before .side-in3 .ensures, c .before .before .before .before .before .before .before .enum-told6 .given .1)
+returns-6 c = simp (c .answers3 .ensures, c .before .before .side-in3 .ensures, c .before .before .before .before .enum-told6 .given .1)
 
 returns-7 : tie.Need-returns-7
 returns-7 c = simp (c .side-in4 .ensures, c .before .before .enum-told7 .given .1)
@@ -134,16 +107,12 @@ event-spec =
     tie.close
     (tie.spec
     enum-told
-    setup-event-requires
+    reference-requires
+    rights-requires
+    requests-requires
     enum-told-2
-    shared-slice-read-answers
-    shared-slice-read-answers-2
-    shared-slice-read-answers-3
     answers-requires
     enum-told-3
-    shared-slice-read-answers-4
-    shared-slice-read-answers-5
-    shared-slice-read-answers-6
     answers-requires-2
     enum-told-4
     shared-slice-read-side-in
@@ -156,10 +125,7 @@ event-spec =
     enum-told-6
     shared-slice-read-side-in-3
     side-in-requires-3
-    shared-slice-read-t31
-    shared-slice-read-answers-7
-    shared-slice-read-answers-8
-    shared-slice-read-answers-9
+    shared-slice-read-t22
     answers-requires-3
     enum-told-7
     shared-slice-read-side-in-4

@@ -2,10 +2,6 @@ use Rattle.trace.specs.Reading.{rightsOf}
 use borrow.Author.Needs.{needs}
 use Rattle.trace.proofs.reading.rights.Statement.{statement}
 use Rattle.trace.proofs.reading.rights.Tie as tie
-use Rattle.trace.proofs.reading.rights.Reads as reads
-use Rattle.trace.proofs.reading.rights.Lts as lts
-use Rattle.values.proofs.flag_in.Reads as flag-in-reads
-use Rattle.trace.proofs.reading.burst.Reads as burst-reads
 
 shared-slice-read-t3 : tie.Need-shared-slice-read-t3
 shared-slice-read-t3 c = search needs
@@ -25,21 +21,21 @@ flag-in-requires-2 c κs = search needs
 shared-slice-read-t11 : tie.Need-shared-slice-read-t11
 shared-slice-read-t11 c = search needs
 
-shared-slice-read-burst : tie.Need-shared-slice-read-burst
-shared-slice-read-burst c = search needs
+shared-slice-read-wide16 : tie.Need-shared-slice-read-wide16
+shared-slice-read-wide16 c = search needs
 
-burst-requires : tie.Need-burst-requires
-burst-requires c κs = search needs
+wide16-requires : tie.Need-wide16-requires
+wide16-requires c κs = search needs
 
-shared-slice-read-burst-2 : tie.Need-shared-slice-read-burst-2
-shared-slice-read-burst-2 c = search needs
+shared-slice-read-wide16-2 : tie.Need-shared-slice-read-wide16-2
+shared-slice-read-wide16-2 c = search needs
 
-burst-requires-2 : tie.Need-burst-requires-2
-burst-requires-2 c κs = search needs
+wide16-requires-2 : tie.Need-wide16-requires-2
+wide16-requires-2 c κs = search needs
 
 returns : tie.Need-returns
 unfolding rightsOf
-returns c = simp (c .burst2 .ensures, c .before .before .burst .ensures, c .before .before .before .before .before .flag-in2 .ensures, c .before .before .before .before .before .before .before .flag-in .ensures)
+returns c = simp (c .wide162 .ensures .0, c .before .before .wide16 .ensures .0, c .before .before .before .before .before .flag-in2 .ensures, c .before .before .before .before .before .before .before .flag-in .ensures)
 
 pub rights-spec : {M : Type 1} → statement M
 rights-spec =
@@ -51,8 +47,8 @@ rights-spec =
     shared-slice-read-flag-in-2
     flag-in-requires-2
     shared-slice-read-t11
-    shared-slice-read-burst
-    burst-requires
-    shared-slice-read-burst-2
-    burst-requires-2
+    shared-slice-read-wide16
+    wide16-requires
+    shared-slice-read-wide16-2
+    wide16-requires-2
     returns)
