@@ -1,9 +1,7 @@
 -- The octets of a message at a place, and its user-user element.
-use Prim.Native.Nat.{ℕ, _+_}
+use Prim.Native.Nat.{ℕ}
 use mathlib.Core.List.{List, []}
-use mathlib.Core.Bool.{cond}
-use lib.ListN.{length, take, drop}
-use lib.Dec.{leb}
+use Rattle.stretch.specs.Stretch.{stretchOf}
 use Rattle.fields.specs.declared.Place.{Place}
 use Rattle.elements.specs.declared.Read.{Read}
 use Rattle.message.specs.Reading.{readOf}
@@ -11,7 +9,7 @@ use Rattle.message.specs.Reading.{readOf}
 -- the octets at a place; none where the place does not lie in the message
 abbrev pub partOf : List ℕ → Place → List ℕ
 partOf m Place.Absent = []
-partOf m (Place.At p n) = cond (leb (p + n) (length m)) (take n (drop p m)) []
+partOf m (Place.At p n) = stretchOf p n m
 
 abbrev pub placeIn : Read → Place
 placeIn (Read.Taken r) = r .user

@@ -4,6 +4,7 @@ ghost use Rattle.parts.specs.Parts.{partOf, userUserOf};
 use elements::Read;
 use fields::Place;
 use message::reader::read_message;
+use stretch::stretch;
 
 // The octets of a message at a place; none where the place does not lie in it.
 pub fn part<'a>(m: &'a [u8], place: Place) -> &'a [u8]
@@ -11,16 +12,7 @@ pub fn part<'a>(m: &'a [u8], place: Place) -> &'a [u8]
 {
     match place {
         Place::Absent => &m[0..0],
-        Place::At(p, n) => {
-            if p > m.len() {
-                return &m[0..0];
-            }
-            if m.len() - p < n {
-                return &m[0..0];
-            }
-            let e = p + n;
-            &m[p..e]
-        }
+        Place::At(p, n) => stretch(m, p, n),
     }
 }
 

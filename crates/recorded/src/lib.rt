@@ -1,6 +1,7 @@
 // The element of a record of a trace, as a part of the trace.
 ghost use mathlib.Core.Path.{_≡_};
 ghost use Rattle.recorded.specs.Recorded.{elementOf};
+use stretch::stretch;
 use trace::reading::Entry;
 
 // The element of a record, as the very part of the trace; empty where there is none.
@@ -9,12 +10,5 @@ pub fn element<'a>(t: &'a [u8], e: Entry) -> &'a [u8]
 {
     let at = e.at;
     let count = e.count;
-    if at > t.len() {
-        return &t[0..0];
-    }
-    if t.len() - at < count {
-        return &t[0..0];
-    }
-    let end = at + count;
-    &t[at..end]
+    stretch(t, at, count)
 }

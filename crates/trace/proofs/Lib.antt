@@ -1,4 +1,3 @@
-pub mod Lying
 pub mod Tests
 pub mod Naming
 pub mod Ranged

@@ -1,75 +1,14 @@
-use Prim.Native.Nat.{_+_}
-use lib.ListN.{length}
-use mathlib.Core.Path.{refl}
-use borrow.Author.Tests.{le-leb, lt-leb}
 use Rattle.recorded.specs.Recorded.{elementOf}
-use Rattle.trace.proofs.Lying.{outside, beyond, inside, size}
 use borrow.Author.Needs.{needs}
 use Rattle.recorded.proofs.element.Statement.{statement}
 use Rattle.recorded.proofs.element.Tie as tie
-use Rattle.recorded.proofs.element.Reads as reads
-use Rattle.recorded.proofs.element.Lts as lts
 
-sub-result : tie.Need-sub-result
-sub-result c = search needs
-
-part-result-start : tie.Need-part-result-start
-part-result-start c = search needs
-
-part-result-end : tie.Need-part-result-end
-part-result-end c = search needs
+stretch-requires : tie.Need-stretch-requires
+stretch-requires c κs = search needs
 
 returns : tie.Need-returns
 unfolding elementOf
-returns c = rw (lt-leb (c .before .before .args .e .at + c .before .before .args .e .count) (length (c .before .before .args .t .now)) (outside _ _ _ (c .before .if1 .taken))) refl
-
-sub-if2 : tie.Need-sub-if2
-sub-if2 c = search needs
-
-sub-result-2 : tie.Need-sub-result-2
-sub-result-2 c = search needs
-
-part-result-start-2 : tie.Need-part-result-start-2
-part-result-start-2 c = search needs
-
-part-result-end-2 : tie.Need-part-result-end-2
-part-result-end-2 c = search needs
-
-returns-2 : tie.Need-returns-2
-unfolding elementOf
-returns-2 c = rw (lt-leb _ _ (beyond _ _ _ (c .before .before .if1 .left) (c .before .if2 .taken))) refl
-
-add-end : tie.Need-add-end
-add-end c = search needs
-
-sub-result-3 : tie.Need-sub-result-3
-sub-result-3 c = search needs
-
-part-result-start-3 : tie.Need-part-result-start-3
-part-result-start-3 c = search needs
-
-part-result-end-3 : tie.Need-part-result-end-3
-part-result-end-3 c = search needs
-
-returns-3 : tie.Need-returns-3
-unfolding elementOf
-returns-3 c = rw (le-leb _ _ (inside _ _ _ (c .before .before .if1 .left) (c .before .if2 .left)), size) refl
+returns c = c .stretch .ensures
 
 pub element-spec : {M : Type 1} → statement M
-element-spec =
-    tie.close
-    (tie.spec
-    sub-result
-    part-result-start
-    part-result-end
-    returns
-    sub-if2
-    sub-result-2
-    part-result-start-2
-    part-result-end-2
-    returns-2
-    add-end
-    sub-result-3
-    part-result-start-3
-    part-result-end-3
-    returns-3)
+element-spec = tie.close (tie.spec stretch-requires returns)

@@ -1,11 +1,13 @@
-use Rattle.trace.proofs.Lying.{size}
+use Prim.Native.Nat.{ℕ, _+_, _-_}
+use mathlib.Core.Path.{_≡_}
+use native.Mathlib.Omega.{arith}
 use Rattle.trace.specs.Reading.{fieldAtOf}
 use borrow.Author.Needs.{needs}
 use Rattle.trace.proofs.reading.field_at.Statement.{statement}
 use Rattle.trace.proofs.reading.field_at.Tie as tie
-use Rattle.trace.proofs.reading.field_at.Reads as reads
-use Rattle.trace.proofs.reading.field_at.Lts as lts
-use Rattle.body.proofs.field.field_fits.Reads as field-fits-reads
+
+size : (p n : ℕ) → p + n - p ≡ n
+size p n = omega arith
 
 add-e : tie.Need-add-e
 add-e c = search needs
