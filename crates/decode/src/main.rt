@@ -1,14 +1,13 @@
 // Prints a capture of messages, a line a message: standard input to standard output, in a fixed amount of memory. What a line
 // says is computed in `capture`; here octets are only read and written.
-use capture::frames::Done;
 use capture::frames::digest;
-use libc::STDIN_FILENO;
-use libc::STDOUT_FILENO;
 use margins::later;
 use margins::write_first;
 use margins::write_last;
 use room::end_of;
-use room::keep;
+use streams::fetch;
+use streams::held;
+use streams::send;
 
 // What of the capture is in the buffer and not printed yet: the octets from one place to another, of which the first has an
 // offset in the capture.
@@ -20,43 +19,15 @@ struct Held {
     ended: bool,
 }
 
-fn send(out: &[u8], n: usize) -> bool {
-    if n > out.len() {
-        return false;
-    }
-    io::write_all(STDOUT_FILENO, &out[0..n])
-}
-
-// Reads once, after the octets that the buffer holds: how many came.
-fn fetch(buf: &mut [u8], held: usize) -> usize {
-    if held >= buf.len() {
-        return 0;
-    }
-    let part = &mut buf[held..];
-    let got = libc::read(STDIN_FILENO, part);
-    io::count(got, part)
-}
-
-fn lines(buf: &[u8], from: usize, to: usize, offset: u64, out: &mut [u8]) -> Done {
-    if from > to {
-        return Done { used: 0, wrote: 0 };
-    }
-    if to > buf.len() {
-        return Done { used: 0, wrote: 0 };
-    }
-    digest(&buf[from..to], offset, out)
-}
-
 // What is held goes to the buffer's front, and more is read after it. Nothing more comes at the capture's end.
 fn refill(buf: &mut [u8], from: usize, to: usize, offset: u64) -> Held {
-    let left = keep(buf, from, to);
-    let got = fetch(buf, left);
+    let f = fetch(buf, from, to);
     Held {
         from: 0,
-        to: std::num::wrapping_add_usize(left, got),
+        to: f.to,
         offset: offset,
-        more: got > 0,
-        ended: got == 0,
+        more: f.came,
+        ended: !f.came,
     }
 }
 
@@ -65,7 +36,7 @@ fn turn(buf: &mut [u8], out: &mut [u8], h: Held) -> Held {
     let from = h.from;
     let to = h.to;
     let offset = h.offset;
-    let d = lines(buf, from, to, offset, out);
+    let d = digest(held(buf, from, to), offset, out);
     let used = d.used;
     if used == 0 {
         return refill(buf, from, to, offset);

@@ -1,13 +1,12 @@
 // A trace from standard input to standard output, in a fixed amount of memory. What is printed is computed in `rerun` and
 // `notices`; here octets are only read, kept and written.
 use call::Call;
-use libc::STDIN_FILENO;
-use libc::STDOUT_FILENO;
 use notices::write_first;
-use rerun::Worked;
 use rerun::work_off;
 use room::end_of;
-use room::keep;
+use streams::fetch;
+use streams::held;
+use streams::send;
 
 // The octets of the trace that the buffer holds, from one place to another, and the calls. last: nothing more comes after
 // these octets. more: the run goes on.
@@ -17,46 +16,6 @@ struct Held {
     to: usize,
     last: bool,
     more: bool,
-}
-
-fn send(out: &[u8], n: usize) -> bool {
-    if n > out.len() {
-        return false;
-    }
-    io::write_all(STDOUT_FILENO, &out[0..n])
-}
-
-// Reads once, after the octets that the buffer holds: how many came.
-fn fetch(buf: &mut [u8], held: usize) -> usize {
-    if held >= buf.len() {
-        return 0;
-    }
-    let part = &mut buf[held..];
-    let got = libc::read(STDIN_FILENO, part);
-    io::count(got, part)
-}
-
-fn lines(buf: &[u8], h: Held, explained: bool, out: &mut [u8]) -> Worked {
-    let calls = h.calls;
-    let from = h.from;
-    let to = h.to;
-    if from > to {
-        return Worked {
-            calls: calls,
-            used: 0,
-            wrote: 0,
-            ended: false,
-        };
-    }
-    if to > buf.len() {
-        return Worked {
-            calls: calls,
-            used: 0,
-            wrote: 0,
-            ended: false,
-        };
-    }
-    work_off(calls, &buf[from..to], h.last, explained, out)
 }
 
 // What is held goes to the buffer's front, and more is read after it. Where nothing comes, what is held is the last; and where
@@ -72,20 +31,20 @@ fn refill(buf: &mut [u8], h: Held) -> Held {
             more: false,
         };
     }
-    let left = keep(buf, h.from, h.to);
-    let got = fetch(buf, left);
+    let f = fetch(buf, h.from, h.to);
     Held {
         calls: calls,
         from: 0,
-        to: std::num::wrapping_add_usize(left, got),
-        last: got == 0,
+        to: f.to,
+        last: !f.came,
         more: true,
     }
 }
 
 // Prints what can be printed of what is held, or reads more.
 fn turn(buf: &mut [u8], out: &mut [u8], explained: bool, h: Held) -> Held {
-    let w = lines(buf, h, explained, out);
+    let before = h.calls;
+    let w = work_off(before, held(buf, h.from, h.to), h.last, explained, out);
     let wrote = w.wrote;
     if wrote == 0 {
         return refill(buf, h);
