@@ -24,7 +24,8 @@ use Rattle.settling.specs.Settle.{subjectOf, outcomeOf, refusalOf, settledOf}
 use Rattle.exchange.specs.Step.{outcomeAt, tableAt, stepOutcome, stepTable}
 use Rattle.exchange.specs.Promises.{heldCall}
 use Rattle.alone.specs.Alone.{Offered, Told, runOf, ownOf, eventsOf, fullOf, outcomesOf, Alone}
-use Rattle.exchange.proofs.Counted.{clash, found-call}
+use Rattle.decide.proofs.Decide.{never}
+use Rattle.exchange.proofs.Counted.{found-call}
 use Rattle.alone.proofs.AloneKept.{opens-in}
 use Rattle.alone.proofs.AloneTable.{Chosen, out, held, full, new, none, old, chosen, keeps, held-if-found, placed-own, placed-new, placed-old, step-sound, step-other, fresh-nobody, fresh-sound}
 
@@ -142,7 +143,7 @@ Lone n c us = outcomesOf us ≡ lone-run n c (eventsOf us) (fullOf us)
 -- the first flag is that of a SETUP, and the others are left
 first-full : (o f : Bool) (fs : List Bool) → o ≡ true → first (cond o (f ∷ fs) fs) ≡ f
 first-full true f fs e = refl
-first-full false f fs e = clash false e refl
+first-full false f fs e = never e refl
 
 rest-full : (o f : Bool) (fs : List Bool) → fs ≡ cond o (rest (cond o (f ∷ fs) fs)) (cond o (f ∷ fs) fs)
 rest-full true f fs = refl

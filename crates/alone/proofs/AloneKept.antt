@@ -16,10 +16,9 @@ use Rattle.call.specs.Step.{stepOf}
 use Rattle.choosing.specs.Choice.{referenceOf, opensOf, rangedOf}
 use Rattle.ranges.specs.Ranges.{InRangeCall}
 use Rattle.settling.specs.Settle.{subjectOf, changesOf, keptOf, settledOf}
-use Rattle.ranges.proofs.Decide.{never, by-cond, both}
+use Rattle.decide.proofs.Decide.{never, by-cond, both}
 use Rattle.ranges.proofs.Kept.{NotSetup, Follows, same, step-in, setup-in}
 use Rattle.ranges.proofs.Ranges.{reference-range, rights-range}
-use Rattle.exchange.proofs.Counted.{clash}
 
 -- an event that does not open a call is no SETUP
 not-setup : (e : Event) → opensOf e ≡ false → NotSetup e
@@ -59,15 +58,15 @@ module _ (c : Call) (m reference : ℕ) (rights : Rights) (q : Requests) (l : Li
 -- what holds of every SETUP holds of an event that opens a call
 pub of-setup : (P : Event → Type 0) → ((reference : ℕ) (rights : Rights) (q : Requests) → P (Event.Setup reference rights q)) → (e : Event) → opensOf e ≡ true → P e
 of-setup P h (Event.Setup reference rights q) o = h reference rights q
-of-setup P h (Event.Alerting answers) o = clash false o refl
-of-setup P h (Event.Connect answers) o = clash false o refl
-of-setup P h (Event.Information side more) o = clash false o refl
-of-setup P h (Event.Facility side what) o = clash false o refl
-of-setup P h (Event.Disconnect side cause answers) o = clash false o refl
-of-setup P h (Event.ReleaseComplete side) o = clash false o refl
-of-setup P h Event.Tick o = clash false o refl
-of-setup P h Event.CallProceeding o = clash false o refl
-of-setup P h Event.CongestionControl o = clash false o refl
+of-setup P h (Event.Alerting answers) o = never o refl
+of-setup P h (Event.Connect answers) o = never o refl
+of-setup P h (Event.Information side more) o = never o refl
+of-setup P h (Event.Facility side what) o = never o refl
+of-setup P h (Event.Disconnect side cause answers) o = never o refl
+of-setup P h (Event.ReleaseComplete side) o = never o refl
+of-setup P h Event.Tick o = never o refl
+of-setup P h Event.CallProceeding o = never o refl
+of-setup P h Event.CongestionControl o = never o refl
 
 pub opens-in : (c : Call) (m : ℕ) (e : Event) (l : List ℕ) → opensOf e ≡ true → rangedOf e ≡ true → Opens c m e l
 opens-in c m e l = of-setup (λ e. rangedOf e ≡ true → Opens c m e l) (λ reference rights q f. opened c m reference rights q l f) e

@@ -28,7 +28,9 @@ use Rattle.ranges.specs.Ranges.{InRangeCall}
 use Rattle.exchange.specs.Promises.{LiveAt, Faulty, over, twins, unsound, heldCall}
 use Rattle.alone.specs.Alone.{AllFresh}
 use Rattle.table.proofs.Searched.{at-held}
-use Rattle.exchange.proofs.Counted.{both, and-true, clash, not-free, is-live, found-live, found-lowest, not-found, not-faulty, is-faulty}
+use Rattle.decide.proofs.Decide.{never}
+use Rattle.decide.proofs.Tests.{both, and-true}
+use Rattle.exchange.proofs.Counted.{not-free, is-live, found-live, found-lowest, not-found, not-faulty, is-faulty}
 use Rattle.ranges.proofs.Kept.{follows-in}
 use Rattle.alone.proofs.AloneKept.{settled-in, opens-in}
 
@@ -54,7 +56,7 @@ held-if-found t n h e = held-live t n ∙ sym (at-held t 0 n) ∙ ap isAt e
 
 -- a live record stands within the table
 live-within : (t : List Call) (i n : ℕ) → liveAs (getD t i freshCall) n ≡ true → i < length t
-live-within [] i n e = clash (liveAs freshCall n) e (fresh-not n)
+live-within [] i n e = never e (fresh-not n)
 live-within (c ∷ t) zero n e = omega arith
 live-within (c ∷ t) (suc i) n e = let w = live-within t i n e in omega arith
 
@@ -144,7 +146,7 @@ module _ (t : List Call) (n i : ℕ) (d : Call) (p : Placed t n i d) where
   there : (j k : ℕ) → (j ≡ i → ⊥) → k ≡ n → LiveAt (set t i d) j k → ⊥
   there j k h e a =
       let b = back j k h a in
-      clash (liveAs (getD t j freshCall) n) (and-true (liveOf (getD t j freshCall .phase)) (eqb (getD t j freshCall .reference) n) (is-live _ (b .live)) (eq-eqb _ n (b .reference ∙ e))) (p .only j h)
+      never (and-true (liveOf (getD t j freshCall .phase)) (eqb (getD t j freshCall .reference) n) (is-live _ (b .live)) (eq-eqb _ n (b .reference ∙ e))) (p .only j h)
 
   no-twins : tableSound t ≡ true → (a b k : ℕ) (x y : Bool) → eqb a i ≡ x → eqb b i ≡ y → a < b → LiveAt (set t i d) a k → LiveAt (set t i d) b k → ⊥
   no-twins s a b k true y ea eb w h g = there b k (λ e. let z = eqb-true a i ea in omega arith) (here a k (eqb-true a i ea) h) g

@@ -23,7 +23,8 @@ use Rattle.table.specs.Table.{tableSound, findFrom, placeFrom}
 use Rattle.chosen.specs.Chosen.{chosenOf}
 use Rattle.exchange.specs.Step.{outcomeAt, tableAt, stepOutcome, stepTable}
 use Rattle.exchange.specs.Promises.{Held}
-use Rattle.exchange.proofs.Counted.{clash, found-held, not-found, no-place, not-full, not-faulty, is-faulty}
+use Rattle.decide.proofs.Decide.{never}
+use Rattle.exchange.proofs.Counted.{found-held, not-found, no-place, not-full, not-faulty, is-faulty}
 use Rattle.exchange.proofs.Within.{chosen-within}
 use Rattle.exchange.proofs.Promises.{not-ranged, is-ranged, changes-at, chosen-names}
 use Rattle.alone.specs.Replies.{SetupBarred, outOfRange, alreadyHeld, noPlace, TableRefuses, faulty, setup, other, Silent, Own, Replies}
@@ -32,7 +33,7 @@ use Rattle.alone.proofs.AloneTable.{Chosen, out, held, full, new, none,
 
 -- ---- what is chosen, and what the table refuses
 own-reference : (n : ℕ) (w : Wanted) → isNew w ≡ false → ownOr n w ≡ n
-own-reference n (Wanted.New own ranged) e = clash true refl e
+own-reference n (Wanted.New own ranged) e = never refl e
 own-reference n Wanted.Old e = refl
 
 -- the table refuses exactly where no place is chosen
@@ -49,11 +50,11 @@ module _ (t : List Call) (n : ℕ) (s : tableSound t ≡ true) where
   opens-here : (i : ℕ) (e : Event) → opensOf e ≡ true → rangedOf e ≡ true → findFrom t 0 (referenceOf n e) ≡ Found.Nothing → placeFrom t 0 ≡ Found.At i → TableRefuses t n e → ⊥
   opens-here i e eo ef eh ep (faulty _ h) = not-faulty t s h
   opens-here i e eo ef eh ep (setup reference rights q h) = enters i reference rights ef eh ep h
-  opens-here i e eo ef eh ep (other _ o h) = clash (opensOf e) eo o
+  opens-here i e eo ef eh ep (other _ o h) = never eo o
 
   goes-on : (e : Event) → opensOf e ≡ false → Held t n → TableRefuses t n e → ⊥
   goes-on e eo k (faulty _ h) = not-faulty t s h
-  goes-on e eo k (setup reference rights q h) = clash true refl eo
+  goes-on e eo k (setup reference rights q h) = never refl eo
   goes-on e eo k (other _ o h) = h k
 
 module _ (t : List Call) (n : ℕ) (e : Event) where

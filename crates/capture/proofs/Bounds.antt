@@ -38,20 +38,20 @@ use Rattle.line.specs.Columns.{causeColumn, singleColumn, elementColumn, headCo
 use Rattle.line.specs.Line.{lineWith, lineOf}
 use Rattle.line.proofs.Words.{taken-text, refused-text}
 use Rattle.capture.specs.Promises.{Octets, Bounded}
-use Rattle.capture.proofs.Framing.{by-cond}
+use Rattle.decide.proofs.Decide.{by-cond}
 
 -- the Cause
 body-cause : (b : List ℕ) → CauseIn (causeOf b)
 unfolding causeOf
 body-cause b =
-    by-cond CauseIn _ _ (ltb (length b) 2) (λ t. tt)
-    (λ t. by-cond CauseIn _ _ (leb 0x80 (getD b 0 0)) (λ u. omega arith)
-    (λ u. by-cond CauseIn _ _ (ltb (length b) 3) (λ v. tt) (λ v. omega arith)))
+    by-cond CauseIn (ltb (length b) 2) (λ t. tt)
+    (λ t. by-cond CauseIn (leb 0x80 (getD b 0 0)) (λ u. omega arith)
+    (λ u. by-cond CauseIn (ltb (length b) 3) (λ v. tt) (λ v. omega arith)))
 
 small-cause : (es : List Element) → CauseIn (firstCause es)
 unfolding firstCause
 small-cause [] = tt
-small-cause (e ∷ es) = by-cond CauseIn _ _ (eqb (e .id) 0x08) (λ t. body-cause (e .body)) (λ t. small-cause es)
+small-cause (e ∷ es) = by-cond CauseIn (eqb (e .id) 0x08) (λ t. body-cause (e .body)) (λ t. small-cause es)
 
 -- the invoke numbers
 abbrev SaysSmall : Facility → Type 0
@@ -61,20 +61,20 @@ SaysSmall (Facility.Says c) = invokeNumber c ≤ 127
 by-form : (f : List Slot) (b : List ℕ) (says : Facility) → (getD b 5 0 < 128 → SaysSmall says) → SaysSmall (readAs f b says)
 unfolding readAs
 by-form f b says h =
-    by-cond SaysSmall _ _ (spells f b) (λ t. by-cond SaysSmall _ _ (ltb (getD b 5 0) 128) (λ u. h (ltb-true _ _ u)) (λ u. tt)) (λ t. tt)
+    by-cond SaysSmall (spells f b) (λ t. by-cond SaysSmall (ltb (getD b 5 0) 128) (λ u. h (ltb-true _ _ u)) (λ u. tt)) (λ t. tt)
 
 asked : (id x : ℕ) (w : Wish) → id < 128 → SaysSmall (invokeSays id (serviceOf x) w)
 unfolding serviceOf
 asked id x w h =
-    by-cond (λ n. SaysSmall (invokeSays id n w)) _ _ (eqb x 1) (λ t. omega arith)
-    (λ t. by-cond (λ n. SaysSmall (invokeSays id n w)) _ _ (eqb x 2) (λ u. omega arith)
-    (λ u. by-cond (λ n. SaysSmall (invokeSays id n w)) _ _ (eqb x 3) (λ v. omega arith) (λ v. tt)))
+    by-cond (λ n. SaysSmall (invokeSays id n w)) (eqb x 1) (λ t. omega arith)
+    (λ t. by-cond (λ n. SaysSmall (invokeSays id n w)) (eqb x 2) (λ u. omega arith)
+    (λ u. by-cond (λ n. SaysSmall (invokeSays id n w)) (eqb x 3) (λ v. omega arith) (λ v. tt)))
 
 rejected : (id x : ℕ) → id < 128 → SaysSmall (errorSays id (refusalOf x))
 unfolding refusalOf
 rejected id x h =
-    by-cond (λ e. SaysSmall (errorSays id e)) _ _ (eqb x 1) (λ t. omega arith)
-    (λ t. by-cond (λ e. SaysSmall (errorSays id e)) _ _ (eqb x 2) (λ u. omega arith) (λ u. tt))
+    by-cond (λ e. SaysSmall (errorSays id e)) (eqb x 1) (λ t. omega arith)
+    (λ t. by-cond (λ e. SaysSmall (errorSays id e)) (eqb x 2) (λ u. omega arith) (λ u. tt))
 
 either : (a b : Facility) → SaysSmall a → SaysSmall b → SaysSmall (or a b)
 either Facility.Absent b p q = q
@@ -107,7 +107,7 @@ one-more (Facility.Says c) cs p q = (p, q)
 small-components : (es : List Element) → AllSmall (components es)
 unfolding components
 small-components [] = tt
-small-components (e ∷ es) = by-cond AllSmall _ _ (eqb (e .id) 0x1C) (λ t. one-more (facilityOf (e .body)) _ (body-says (e .body)) (small-components es)) (λ t. small-components es)
+small-components (e ∷ es) = by-cond AllSmall (eqb (e .id) 0x1C) (λ t. one-more (facilityOf (e .body)) _ (body-says (e .body)) (small-components es)) (λ t. small-components es)
 
 three : (cs : List Component) → AllSmall cs → FacilitiesIn (firstThree cs)
 three [] h = tt
@@ -135,24 +135,24 @@ typed-in w m (Typed.Known k) h = taken-in _ (elements (widthOf w + 3) 0 (drop (w
 
 headed-in : (w : Width) (m : List ℕ) → Octets m → ReadIn (headedOf w m)
 unfolding headedOf
-headed-in w m h = by-cond ReadIn _ _ (ltb (length m) (widthOf w + 3)) (λ t. tt) (λ t. typed-in w m (kindOf (getD m (widthOf w + 2) 0)) h)
+headed-in w m h = by-cond ReadIn (ltb (length m) (widthOf w + 3)) (λ t. tt) (λ t. typed-in w m (kindOf (getD m (widthOf w + 2) 0)) h)
 
 read-in : (m : List ℕ) → Octets m → ReadIn (readOf m)
 unfolding readOf
 read-in m h =
-    by-cond ReadIn _ _ (ltb 260 (length m)) (λ t. tt)
-    (λ t. by-cond ReadIn _ _ (ltb (length m) 1) (λ t. tt)
-    (λ t. by-cond ReadIn _ _ (eqb (getD m 0 0) 8)
-    (λ t. by-cond ReadIn _ _ (ltb (length m) 2) (λ t. tt)
-    (λ t. by-cond ReadIn _ _ (eqb (getD m 1 0) 1) (λ t. headed-in Width.One m h)
-    (λ t. by-cond ReadIn _ _ (eqb (getD m 1 0) 2) (λ t. headed-in Width.Two m h) (λ t. tt))))
+    by-cond ReadIn (ltb 260 (length m)) (λ t. tt)
+    (λ t. by-cond ReadIn (ltb (length m) 1) (λ t. tt)
+    (λ t. by-cond ReadIn (eqb (getD m 0 0) 8)
+    (λ t. by-cond ReadIn (ltb (length m) 2) (λ t. tt)
+    (λ t. by-cond ReadIn (eqb (getD m 1 0) 1) (λ t. headed-in Width.One m h)
+    (λ t. by-cond ReadIn (eqb (getD m 1 0) 2) (λ t. headed-in Width.Two m h) (λ t. tt))))
     (λ t. tt)))
 
 -- one that is longer than 260 octets is not taken
 short-in : (m : List ℕ) (r : Reading) → readOf m ≡ Read.Taken r → length m ≤ 260
 unfolding readOf
 short-in m r =
-    by-cond (λ (x : Read). x ≡ Read.Taken r → length m ≤ 260) _ _ (ltb 260 (length m))
+    by-cond (λ (x : Read). x ≡ Read.Taken r → length m ≤ 260) (ltb 260 (length m))
     (λ t e. let z : _≡_ {A = ℕ} 0 1 = cc in absurd (omega arith))
     (λ t e. ltb-false 260 (length m) t)
 

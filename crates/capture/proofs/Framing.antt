@@ -1,18 +1,14 @@
 -- The whole messages at the front of a piece, one by one.
 use Prim.Native.Nat.{ℕ, zero, suc, _+_, _<_, _≤_}
 use mathlib.Core.List.{List, [], _∷_}
-use mathlib.Core.Bool.{Bool, true, false, cond}
 use mathlib.Core.Path.{_≡_, refl, ap, _∙_}
 use native.Mathlib.Omega.{arith}
 use borrow.Author.Tests.{le-leb, lt-leb}
 use lib.Dec.{leb}
 use lib.ListN.{length, take, drop, length-drop}
+use Rattle.decide.proofs.Decide.{by-cond}
 use Rattle.capture.specs.Frames.{Frame, sizeOf, framesIn, framesOf}
 use Rattle.margins.specs.Margins.{laterOf}
-
-pub by-cond : {A : Type 0} (P : A → Type 0) (a b : A) (t : Bool) → (t ≡ true → P a) → (t ≡ false → P b) → P (cond t a b)
-by-cond P a b true h k = h refl
-by-cond P a b false h k = k refl
 
 -- the first message of a piece
 abbrev pub firstOf : ℕ → List ℕ → Frame
@@ -25,7 +21,7 @@ enough zero zero offset c p q = refl
 enough zero (suc g) offset c p q = simp (lt-leb (2 + sizeOf c) (length c) (omega arith))
 enough (suc f) zero offset c p q = simp (lt-leb (2 + sizeOf c) (length c) (omega arith))
 enough (suc f) (suc g) offset c p q =
-    by-cond (λ (l : List Frame). l ≡ framesIn (suc g) offset c) _ _ (leb (2 + sizeOf c) (length c))
+    by-cond (λ (l : List Frame). l ≡ framesIn (suc g) offset c) (leb (2 + sizeOf c) (length c))
     (λ t. simp t (ap (λ (l : List Frame). firstOf offset c ∷ l) (enough f g _ _ (shorter f c p) (shorter g c q))))
     (λ t. simp t)
   where

@@ -10,7 +10,8 @@ use lib.Seq.{length-take-le, drop-drop, take-append-le, drop-append-le}
 use Rattle.capture.specs.Frames.{Frame, sizeOf, framesIn, framesOf, lineAt, fitting, spanOf}
 use Rattle.margins.specs.Margins.{laterOf}
 use Rattle.capture.specs.Promises.{Offset}
-use Rattle.capture.proofs.Framing.{by-cond, firstOf, frames-turn, later-later, later-none}
+use Rattle.decide.proofs.Decide.{by-cond}
+use Rattle.capture.proofs.Framing.{firstOf, frames-turn, later-later, later-none}
 
 pub record Front (c more : List ℕ) (offset : ℕ) (fs : List Frame) : Type 0 where
   pub within : spanOf fs ≤ length c
@@ -52,8 +53,8 @@ pub front-of : (k : ℕ) (c more : List ℕ) (offset room : ℕ) → Offset offs
 unfolding framesIn fitting
 front-of zero c more offset room h = front-none c more offset h
 front-of (suc k) c more offset room h =
-    by-cond (λ (fs : List Frame). Front c more offset (fitting fs room)) _ _ (leb (2 + sizeOf c) (length c))
-    (λ t. by-cond (λ (fs : List Frame). Front c more offset fs) _ _ (leb (length (lineAt (firstOf offset c))) room)
+    by-cond (λ (fs : List Frame). Front c more offset (fitting fs room)) (leb (2 + sizeOf c) (length c))
+    (λ t. by-cond (λ (fs : List Frame). Front c more offset fs) (leb (length (lineAt (firstOf offset c))) room)
     (λ u. front-cons c more offset (leb-true _ _ t) _ (front-of k _ more _ _ (later-small offset (2 + sizeOf c))))
     (λ u. front-none c more offset h))
     (λ t. front-none c more offset h)

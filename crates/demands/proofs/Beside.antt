@@ -28,7 +28,7 @@ use Rattle.serving.specs.Serving.{lateOf}
 use Rattle.passing.specs.Passing.{passesOf}
 use Rattle.meters.specs.Meters.{grantsOf, inForceAfterOf, meterOf}
 use Rattle.demands.specs.MoreRights.{NoLess}
-use Rattle.ranges.proofs.Decide.{never, by-cond}
+use Rattle.decide.proofs.Decide.{never, by-cond}
 
 -- a test that is true where another is
 pub and-right : (a b b' : Bool) → (b ≡ true → b' ≡ true) → (a && b) ≡ true → (a && b') ≡ true

@@ -61,7 +61,7 @@ use Rattle.ranges.specs.Ranges.{Live, InRangeCall}
 use Rattle.promises.specs.Numbers.{other}
 use Rattle.promises.specs.Sound.{Offered, runOf}
 use Rattle.demands.specs.Credit.{Purse, Account, moves, grants, clears, fails, comes, accepts, lacks, remaining, begins, alerts, connects, byCount, byCredit, pays, informs, may, agrees, refills, holds, books, accountOf, unopened, Balanced, Credit, Covered}
-use Rattle.ranges.proofs.Decide.{never, by-cond}
+use Rattle.decide.proofs.Decide.{never, by-cond}
 use Rattle.promises.proofs.Heard.{bar-not-taken, Heard, through, barred, heard}
 use Rattle.ranges.proofs.Phases.{requested, active, live}
 use Rattle.ranges.proofs.Ranges.{unsound as unsound-when}

@@ -62,7 +62,7 @@ use Rattle.ranges.specs.Ranges.{Live, InRangeCall}
 use Rattle.promises.specs.Sound.{Offered, runOf}
 use Rattle.promises.specs.Handling.{handedIn}
 use Rattle.demands.specs.MoreRights.{eventWith, withRights, NoLess, handedOf, Kept, NoFewer, end, also, InStep, MoreRights}
-use Rattle.ranges.proofs.Decide.{never}
+use Rattle.decide.proofs.Decide.{never}
 use Rattle.promises.proofs.Heard.{Heard, through, barred, heard}
 use Rattle.ranges.proofs.Phases.{requested, connectable, talking, active, up, live}
 use Rattle.ranges.proofs.Ranges.{rights-range, unsound}

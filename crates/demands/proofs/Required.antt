@@ -44,7 +44,7 @@ use Rattle.promises.specs.Numbers.{InForce}
 use Rattle.promises.specs.Sound.{Offered, runOf}
 use Rattle.promises.specs.Notes.{Lacking, LacksRequired, Fails, AlertingFails, ConnectFails}
 use Rattle.demands.specs.Services.{requestFor, standingFor, Taken, Requires, asked, Required, setup, alerting, connect, Failed}
-use Rattle.ranges.proofs.Decide.{never, by-cond}
+use Rattle.decide.proofs.Decide.{never, by-cond}
 use Rattle.promises.proofs.Heard.{bar-not-taken, Heard, through, barred, heard}
 use Rattle.ranges.proofs.Phases.{fresh, requested, connectable, active}
 use Rattle.promises.proofs.Conditions.{has}

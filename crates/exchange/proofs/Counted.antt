@@ -17,21 +17,11 @@ use Rattle.looking.specs.Look.{liveAs, isAt}
 use Rattle.table.specs.Table.{findFrom, placeFrom, heldIn, callsSound, tableSound}
 use Rattle.exchange.specs.Promises.{Free, LiveAt, Held, Full, Faulty, over, twins, unsound, heldCall, Lowest}
 use Rattle.choosing.specs.declared.choice.Found.{Found}
+use Rattle.decide.proofs.Tests.{both, and-true}
 use Rattle.ranges.specs.Ranges.{InRangeCall}
 use Rattle.ranges.proofs.Ranges.{fields-range}
 use Rattle.table.proofs.Searched.{at-held}
 use Rattle.exchange.proofs.Within.{same-found}
-
--- ---- tests
-pub both : (a b : Bool) → a && b ≡ true → (a ≡ true) × (b ≡ true)
-both true b e = (refl, e)
-both false b e = absurd (true≢false (sym e))
-
-pub and-true : (a b : Bool) → a ≡ true → b ≡ true → a && b ≡ true
-and-true a b e f = ap (λ (x : Bool). x && b) e ∙ f
-
-pub clash : {X : Type 0} (a : Bool) → a ≡ true → a ≡ false → X
-clash a e f = absurd (true≢false (sym e ∙ f))
 
 -- ---- phases
 pub not-free : (p : Phase) → liveOf p ≡ true → Free p → ⊥

@@ -36,7 +36,9 @@ use Rattle.choosing.specs.declared.choice.Choice.{Choice}
 use Rattle.verdicts.specs.declared.Verdict.{Verdict}
 use Rattle.ranges.specs.Ranges.{ReferenceInRange, RightsInRange}
 use Rattle.ranges.proofs.Ranges.{reference-range, rights-range}
-use Rattle.exchange.proofs.Counted.{both, and-true, clash, found-held, not-found, no-place, not-full, not-faulty, is-faulty, found-call, found-live, found-lowest}
+use Rattle.decide.proofs.Decide.{never}
+use Rattle.decide.proofs.Tests.{both, and-true}
+use Rattle.exchange.proofs.Counted.{found-held, not-found, no-place, not-full, not-faulty, is-faulty, found-call, found-live, found-lowest}
 use Rattle.exchange.proofs.Within.{not-refused, same-chosen}
 
 -- ---- the choice, from what the table's tests say
@@ -61,7 +63,7 @@ setup-zero t i reference rights q l e =
     setup-taken (referenceFitsOf reference && rightsFitOf rights) (proceedsOf reference rights q (seenOf l (rights .limit))) (refusedOf freshCall (cond (referenceFitsOf reference && rightsFitOf rights) Answer.Taken Answer.OutOfRange) Note.Clear) refl e
 
 pub not-ranged : (reference : ℕ) (rights : Rights) → (referenceFitsOf reference && rightsFitOf rights) ≡ false → ReferenceInRange reference × RightsInRange rights → ⊥
-not-ranged reference rights e p = clash (referenceFitsOf reference && rightsFitOf rights) (and-true (referenceFitsOf reference) (rightsFitOf rights) (reference-range reference .back (p .0)) (rights-range rights .back (p .1))) e
+not-ranged reference rights e p = never (and-true (referenceFitsOf reference) (rightsFitOf rights) (reference-range reference .back (p .0)) (rights-range rights .back (p .1))) e
 
 pub is-ranged : (reference : ℕ) (rights : Rights) → (referenceFitsOf reference && rightsFitOf rights) ≡ true → (ReferenceInRange reference × RightsInRange rights → ⊥) → ⊥
 is-ranged reference rights e h =
@@ -205,7 +207,7 @@ named t n e l i h = named-at t n e l i (chosenOf t n e) refl h
 
 -- ---- 14
 not-14 : {X : Type 0} (n : ℕ) → eqb n 14 ≡ false → n ≡ 14 → X
-not-14 n e h = clash (eqb n 14) (eq-eqb n 14 h) e
+not-14 n e h = never (eq-eqb n 14 h) e
 
 -- an event that is no SETUP goes to the record as it stands
 own-number : (c : Call) (e : Event) (l : List ℕ) → opensOf e ≡ false → verdictNumber (settledOf c e l .outcome .verdict) ≡ numberOf (stepOf c e l .answer)

@@ -1,9 +1,9 @@
 -- The fields of a message that are in range.
-use Prim.Native.Nat.{ℕ, _-_}
+use Prim.Native.Nat.{ℕ}
 use mathlib.Core.List.{List}
-use mathlib.Core.Bool.{Bool, true, false, cond, _&&_}
-use lib.ListN.{length, getD}
-use lib.Dec.{ltb, eqb}
+use mathlib.Core.Bool.{Bool, true, false, _&&_}
+use lib.Dec.{ltb}
+use Rattle.writable.specs.Writable.{elementFitsOf}
 use Rattle.cause.specs.declared.Cause.{Cause}
 use Rattle.cause.specs.Cause.{causeFits}
 use Rattle.component.specs.Facility.{componentFits}
@@ -60,17 +60,9 @@ facilitiesFit (Facilities.One a) = componentFits a
 facilitiesFit (Facilities.Two a b) = componentFits a && componentFits b
 facilitiesFit (Facilities.Three a b c) = (componentFits a && componentFits b) && componentFits c
 
--- "elements 2 to 131 octets beginning 7E and the length less 2"; no octets at all is an absent element
-unfoldable pub userFits : List ℕ → Bool
-userFits u =
-    cond (eqb (length u) 0) true
-    (cond (ltb (length u) 2) false
-    (cond (ltb 131 (length u)) false
-    (cond (eqb (getD u 0 0) 0x7E) (eqb (getD u 1 0) (length u - 2)) false)))
-
 -- 7 "a field out of range", otherwise
 unfoldable pub messageFits : Message → List ℕ → Bool
 messageFits w user =
     (((referenceFits (w .header .width) (w .header .reference) && singleFits (w .header .kind) (w .single)) && causesFit (w .cause))
     && facilitiesFit (w .facility))
-    && userFits user
+    && elementFitsOf user

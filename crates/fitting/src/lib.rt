@@ -1,6 +1,6 @@
 // Whether every field of a message is in range.
 ghost use mathlib.Core.Path.{_≡_};
-ghost use Rattle.fitting.specs.Fitting.{referenceFits, plainFits, moreFits, levelFits, singleFits, causesFit, facilitiesFit, userFits, messageFits};
+ghost use Rattle.fitting.specs.Fitting.{referenceFits, plainFits, moreFits, levelFits, singleFits, causesFit, facilitiesFit, messageFits};
 use cause::Cause;
 use component::facility::component_fits;
 use fields::Facilities;
@@ -8,6 +8,7 @@ use fields::Message;
 use fields::Single;
 use fields::Width;
 use kinds::Kind;
+use writable::element_fits;
 
 // References 0 to 127 or to 32767, by length.
 fn reference_fits(w: Width, r: u16) -> bool
@@ -89,23 +90,6 @@ fn facilities_fit(f: Facilities) -> bool
     }
 }
 
-fn wide(x: u8) -> usize
-    ensures { λ r. ⌜ r ≡ x ⌝ }
-{
-    x as usize
-}
-
-// Nothing, or a whole user-user element of 2 to 131 octets.
-fn user_fits(u: &[u8]) -> bool
-    ensures { λ t. ⌜ t ≡ userFits (now (u .entry)) ⌝ }
-{
-    let n = u.len();
-    if n < 2 {
-        return n == 0;
-    }
-    (n <= 131) & (u[0] == 0x7E) & (wide(u[1]) == n - 2)
-}
-
 // Whether every field is in range.
 pub fn message_fits(w: Message, user: &[u8]) -> bool
     ensures { λ t. ⌜ t ≡ messageFits w (now (user .entry)) ⌝ }
@@ -120,5 +104,5 @@ pub fn message_fits(w: Message, user: &[u8]) -> bool
         & single_fits(kind, single)
         & causes_fit(cause)
         & facilities_fit(facility)
-        & user_fits(user)
+        & element_fits(user)
 }

@@ -1,4 +1,3 @@
-pub mod Cases
 pub mod Table
 pub mod Whole
 pub mod Range

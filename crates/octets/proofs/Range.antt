@@ -1,13 +1,13 @@
 -- The writer's test and what the paper says is in range are one.
 use Prim.Native.Nat.{ℕ, _≤_}
 use mathlib.Core.List.{List}
-use mathlib.Core.Bool.{Bool, true, false, cond, true≢false}
+use mathlib.Core.Bool.{Bool, true, false, true≢false}
 use mathlib.Core.Logic.{_⊎_, inl, inr, ⊎-elim}
 use mathlib.Core.Path.{_≡_, refl, sym}
 use native.Mathlib.Omega.{arith}
-use borrow.Author.Tests.{lt-ltb, le-ltb, eq-eqb, ne-eqb, ltb-true, ltb-false, eqb-true}
-use lib.ListN.{length, getD}
-use lib.Dec.{ltb, eqb}
+use borrow.Author.Tests.{lt-ltb, ltb-true}
+use lib.ListN.{length}
+use lib.Dec.{ltb}
 use Rattle.cause.specs.declared.Cause.{Cause}
 use Rattle.component.specs.Facility.{invokeNumber}
 use Rattle.kinds.specs.declared.Kind.{Kind}
@@ -15,45 +15,20 @@ use Rattle.fields.specs.declared.Width.{Width}
 use Rattle.fields.specs.declared.Single.{Single}
 use Rattle.fields.specs.declared.Facilities.{Facilities}
 use Rattle.fields.specs.declared.Message.{Message}
-use Rattle.fitting.specs.Fitting.{referenceFits, plainFits, moreFits, levelFits, singleFits, causesFit, facilitiesFit, userFits, messageFits}
+use Rattle.fitting.specs.Fitting.{referenceFits, plainFits, moreFits, levelFits, singleFits, causesFit, facilitiesFit, messageFits}
 use Rattle.octets.specs.Promises.{highest, SingleIn, CauseIn, FacilitiesIn, UserElement, InRange}
-use Rattle.fitting.proofs.Ranges.{both, fits}
+use Rattle.decide.proofs.Tests.{both}
+use Rattle.writable.specs.Writable.{elementFitsOf}
+use Rattle.writable.proofs.Whole.{element-in, element-fits}
+use Rattle.fitting.proofs.Ranges.{fits}
 
--- a chain of tests that ends well
-if-so : (a b : Bool) → cond a b false ≡ true → (a ≡ true) × (b ≡ true)
-if-so true b h = (refl, h)
-if-so false b h = absurd (true≢false (sym h))
-
-if-not : (a b : Bool) → cond a false b ≡ true → (a ≡ false) × (b ≡ true)
-if-not true b h = absurd (true≢false (sym h))
-if-not false b h = (refl, h)
-
-if-yes : (a b : Bool) → cond a true b ≡ true → (a ≡ true) ⊎ (b ≡ true)
-if-yes true b h = inl refl
-if-yes false b h = inr h
-
-pub user-in : (u : List ℕ) → userFits u ≡ true → (length u ≡ 0) ⊎ UserElement u
-unfolding userFits
+pub user-in : (u : List ℕ) → elementFitsOf u ≡ true → (length u ≡ 0) ⊎ UserElement u
 user-in u h =
-    ⊎-elim (λ z. inl (eqb-true (length u) 0 z))
-    (λ n.
-    let a = if-not (ltb (length u) 2) _ n in
-    let b = if-not (ltb 131 (length u)) _ (a .1) in
-    let d = if-so (eqb (getD u 0 0) 0x7E) _ (b .1) in
-    inr (record { least = ltb-false _ _ (a .0); most = ltb-false _ _ (b .0); first = eqb-true _ _ (d .0); second = eqb-true _ _ (d .1) }))
-    (if-yes (eqb (length u) 0) _ h)
+    ⊎-elim inl (λ w. inr (record { least = w .least; most = w .most; first = w .first; second = w .second })) (element-in u h)
 
-user-fits : (u : List ℕ) → (length u ≡ 0) ⊎ UserElement u → userFits u ≡ true
-unfolding userFits
-user-fits u (inl z) = simp (eq-eqb _ _ z)
-user-fits u (inr e) =
-    simp (
-      ne-eqb (length u) 0 (λ z. omega arith),
-      le-ltb (length u) 2 (e .least),
-      le-ltb 131 (length u) (e .most),
-      eq-eqb _ _ (e .first),
-      eq-eqb _ _ (e .second),
-    )
+user-fits : (u : List ℕ) → (length u ≡ 0) ⊎ UserElement u → elementFitsOf u ≡ true
+user-fits u e =
+    element-fits u (⊎-elim inl (λ w. inr (record { least = w .least; most = w .most; first = w .first; second = w .second })) e)
 
 -- at most 127 is below 128
 low : (v : ℕ) → ltb v 128 ≡ true → v ≤ 127

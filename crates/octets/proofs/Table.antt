@@ -22,7 +22,7 @@ use Rattle.message.specs.Reading.{widthOf, headerOf, typedOf, headedOf, readOf}
 use Rattle.elements.specs.Numbers.{faultNumber, readNumber}
 use Rattle.octets.specs.Promises.{Whole, none, alone, announced, readRows}
 use Rattle.elements.proofs.Splitting as split
-use Rattle.octets.proofs.Cases.{by-cond}
+use Rattle.decide.proofs.Decide.{by-cond}
 
 abbrev isWhole : Split → Bool
 isWhole cut = false

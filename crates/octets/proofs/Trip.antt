@@ -41,7 +41,8 @@ use Rattle.elements.proofs.Splitting.{alone, lengthy}
 use Rattle.elements.proofs.Noting.{adds-cause, adds-facility, adds-place, adds-single}
 use Rattle.elements.proofs.Turns.{nothing, goingOn, at-first, at-last, notes}
 use Rattle.message.proofs.Heading.{headed-known}
-use Rattle.fitting.proofs.Ranges.{both, fits}
+use Rattle.decide.proofs.Tests.{both}
+use Rattle.fitting.proofs.Ranges.{fits}
 use Rattle.sizes.proofs.Sizes.{small, front-is, message-is}
 use Rattle.octets.proofs.Range.{user-in}
 

@@ -22,7 +22,7 @@ use Rattle.message.specs.Reading.{widthOf, headerOf, typedOf, headedOf, readOf}
 use Rattle.parts.specs.Parts.{placeIn, userUserOf}
 use Rattle.octets.specs.Promises as promise
 use Rattle.elements.proofs.Splitting.{short}
-use Rattle.octets.proofs.Cases.{by-cond}
+use Rattle.decide.proofs.Decide.{by-cond}
 
 module _ (m : List ℕ) where
   -- an element with a length lies in m as it was split off

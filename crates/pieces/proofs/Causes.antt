@@ -51,7 +51,7 @@ use Rattle.settling.specs.declared.settle.Outcome.{Outcome}
 use Rattle.chosen.specs.Chosen.{chosenOf}
 use Rattle.settling.specs.Settle.{settledOf, refusalOf, outcomeOf as settledOutcome}
 use Rattle.exchange.specs.Step.{outcomeAt, stepOutcome}
-use Rattle.pieces.proofs.Making.{by-cond}
+use Rattle.decide.proofs.Decide.{by-cond}
 
 -- causes, messages and replies with causes up to 127
 abbrev pub CauseIn : Cause → Type 0
@@ -72,7 +72,7 @@ refused-says c a n = record { calling = tt; called = tt }
 
 heard-says : (c : Call) (bar : Answer) (r : Reply) → (takenOf bar ≡ true → Says r) → Says (heardOf c bar r)
 unfolding heardOf
-heard-says c bar r h = by-cond Says _ _ (takenOf bar) h (λ _. refused-says c bar Note.Clear)
+heard-says c bar r h = by-cond Says (takenOf bar) h (λ _. refused-says c bar Note.Clear)
 
 saying-in : (kind : Kind) (cause : Cause) (said : Facilities) (element : Bool) → CauseIn cause → SentIn (sayingOf kind cause said element)
 unfolding sayingOf
@@ -88,7 +88,7 @@ informs-in more = tt
 
 only-in : (b : Bool) (s : Sent) → SentIn s → SentIn (onlyIfOf b s)
 unfolding onlyIfOf
-only-in b s h = by-cond SentIn _ _ b (λ _. h) (λ _. tt)
+only-in b s h = by-cond SentIn b (λ _. h) (λ _. tt)
 
 side-says : (side : Side) (c : Call) (a : Answer) (n : Note) (back on : Sent) → SentIn back → SentIn on → Says (replyOf side c a n back on)
 unfolding replyOf
@@ -99,8 +99,8 @@ setup-says : (reference : ℕ) (rights : Rights) (q : Requests) (seen : Seen) �
 unfolding proceedsOf toCallerOf toCalledOf
 setup-says reference rights q seen =
     record {
-      calling = by-cond SentIn _ _ (lacksOf rights q) (λ _. saying-in _ _ _ _ (omega arith)) (λ _. saying-in _ _ _ _ tt);
-      called = by-cond SentIn _ _ (lacksOf rights q) (λ _. tt) (λ _. saying-in _ _ _ _ tt);
+      calling = by-cond SentIn (lacksOf rights q) (λ _. saying-in _ _ _ _ (omega arith)) (λ _. saying-in _ _ _ _ tt);
+      called = by-cond SentIn (lacksOf rights q) (λ _. tt) (λ _. saying-in _ _ _ _ tt);
     }
 
 -- the cause of a failed service is 29 or 69
@@ -128,7 +128,7 @@ unfolding alertingFatesOf
 alerting-in s a = failed-in _ (decided-in (s .one) (a .one)) (decided-in (s .two) (a .two)) tt
 
 kept-in : (b : Bool) (s : Standing) (g : Given) → CauseIn (failureOf (cond b Fate.Kept (decidedOf s g)))
-kept-in b s g = by-cond (λ f. CauseIn (failureOf f)) _ _ b (λ _. tt) (λ _. decided-in s g)
+kept-in b s g = by-cond (λ f. CauseIn (failureOf f)) b (λ _. tt) (λ _. decided-in s g)
 
 connect-in : (alerted : Bool) (s : Standings) (a : Answers) → CauseIn (failedOf (connectFatesOf alerted s a))
 unfolding connectFatesOf
@@ -150,7 +150,7 @@ carried-says c side more p = side-says side _ _ _ _ _ (only-in _ _ (congestion-i
 
 element-says : (c : Call) (seen : Seen) (r : Reply) → Says r → Says (withElementOf c seen r)
 unfolding withElementOf
-element-says c seen r h = by-cond Says _ _ (wholeOf seen) (λ _. h) (λ _. refused-says c _ _)
+element-says c seen r h = by-cond Says (wholeOf seen) (λ _. h) (λ _. refused-says c _ _)
 
 tick-says : (c : Call) → Says (passesTickOf c)
 unfolding passesTickOf readyOf
@@ -158,7 +158,7 @@ tick-says c = record { calling = only-in _ _ (congestion-in Level.Ready); called
 
 -- "DISCONNECT, cause over 127" is barred
 ranged-bar : (s a g : Bool) → takenOf (cond s (cond a (cond g Answer.Taken Answer.OutOfRange) Answer.OutOfPhase) Answer.Unsound) ≡ true → g ≡ true
-ranged-bar true true g h = by-cond (λ x. takenOf x ≡ true → g ≡ true) Answer.Taken Answer.OutOfRange g (λ e _. e) (λ _ z. absurd-of z) h
+ranged-bar true true g h = by-cond (λ x. takenOf x ≡ true → g ≡ true) g (λ e _. e) (λ _ z. absurd-of z) h
   where
     absurd-of : false ≡ true → g ≡ true
     absurd-of z = let y : _≡_ {A = ℕ} 0 1 = cc in absurd (omega arith)

@@ -30,7 +30,7 @@ use Rattle.body.specs.Field.{blankOf, fieldFitsOf}
 use Rattle.values.specs.Values.{flagOf, requestOf}
 use Rattle.trace.specs.Reading.{referenceOf, fieldAtOf, closesOf, rightsOf, requestsOf, countOf, entryOf, recordOf}
 use Rattle.recorded.specs.Recorded.{elementOf}
-use Rattle.trace.proofs.Tests.{both}
+use Rattle.decide.proofs.Tests.{both}
 use Rattle.text.specs.Decimal.{digitsOf, decimalOf}
 use Rattle.text.specs.Hex.{digitOf}
 use Rattle.items.specs.Items.{itemsOf, commas, joined}

@@ -7,6 +7,7 @@ use native.Mathlib.Omega.{arith}
 use lib.Dec.{leb}
 use lib.ListN.{length, drop, length-drop}
 use lib.Seq.{drop-drop, drop-append-le}
+use Rattle.decide.proofs.Decide.{by-cond}
 use Rattle.call.specs.declared.Call.{Call}
 use Rattle.trace.specs.declared.reading.Entry.{Entry}
 use Rattle.trace.specs.declared.reading.Fault.{Fault}
@@ -19,10 +20,6 @@ use Rattle.fronts.specs.Fronts.{heardOf, frontOf}
 use Rattle.rerun.specs.Run.{turnedAt, lineAt, Ran, rests, ends, goes, turnOf, runIn}
 use Rattle.pieces.specs.Promises.{Made, madeBy, madeIn, madeOf, thenMade}
 use Rattle.pieces.proofs.Fronts.{Whole, told, stays, size-least, size-within, same-element}
-
-pub by-cond : {A : Type 0} (P : A → Type 0) (a b : A) (t : Bool) → (t ≡ true → P a) → (t ≡ false → P b) → P (cond t a b)
-by-cond P a b true h k = h refl
-by-cond P a b false h k = k refl
 
 -- the record that was found
 pub taken : (t : List ℕ) (e : Entry) → recordOf t ≡ Record.Taken e → Whole t e
@@ -110,7 +107,7 @@ module _ (explained : Bool) (calls : List Call) (t more : List ℕ) where
 module _ (explained last : Bool) (calls : List Call) (t more : List ℕ) (end : last ≡ true → more ≡ []) (room : ℕ) (next : Entry → Ran) (then : (e : Entry) → Whole t e → Went explained (turnedAt calls e t .calls) (drop (sizeOf (e .kind)) t) more (next e)) where
   fault-turn : (f : Fault) → recordOf (t ++ more) ≡ Record.Refused f → Went explained calls t more (turnOf (Front.Faulty f) explained room calls t next)
   fault-turn f h =
-      by-cond (Went explained calls t more) _ _ (leb (length (faultLine f)) room) (λ _. went-fault explained calls t more f h)
+      by-cond (Went explained calls t more) (leb (length (faultLine f)) room) (λ _. went-fault explained calls t more f h)
       (λ _. went-none explained calls t more)
 
   short-turn : (b : Bool) → last ≡ b → recordOf t ≡ Record.Refused Fault.Short → Went explained calls t more (turnOf (cond b (Front.Faulty Fault.Short) Front.Waits) explained room calls t next)
@@ -124,7 +121,7 @@ module _ (explained last : Bool) (calls : List Call) (t more : List ℕ) (end : 
   turn (Record.Refused Fault.Range) h = fault-turn Fault.Range (stays t more (rw h tt) ∙ h)
   turn (Record.Taken e) h =
       let w = taken t e h in
-      by-cond (Went explained calls t more) _ _ (leb (length (lineAt explained calls e t)) room)
+      by-cond (Went explained calls t more) (leb (length (lineAt explained calls e t)) room)
       (λ _. went-line explained calls t more e w (next e) (stays t more (rw h tt) ∙ h) (then e w))
       (λ _. went-none explained calls t more)
 

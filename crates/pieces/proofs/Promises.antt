@@ -21,7 +21,8 @@ use Rattle.fronts.specs.Fronts.{heardOf, frontOf}
 use Rattle.rerun.specs.Run.{lineAt, Ran, turnOf, runIn, runOf}
 use Rattle.pieces.specs.Promises.{madeOf, printedOf, GoesOn, Octets, longest, Bounded, Run, WholeRun, Runs, Always}
 use Rattle.pieces.proofs.Fronts.{record-none}
-use Rattle.pieces.proofs.Making.{by-cond, taken, none-left, cut-short, made-end, Went, went}
+use Rattle.decide.proofs.Decide.{by-cond}
+use Rattle.pieces.proofs.Making.{taken, none-left, cut-short, made-end, Went, went}
 use Rattle.pieces.proofs.Lines.{record-short, line-some, fault-short}
 
 piece : (explained last : Bool) (room : ℕ) (calls : List Call) (t more : List ℕ) → (last ≡ true → more ≡ []) → Went explained calls t more (runOf explained last room calls t)
@@ -131,15 +132,15 @@ Moves r = (r .text ≡ []) ⊎ ((r .ended ≡ true) ⊎ (1 ≤ r .used))
 
 module _ (explained last : Bool) (calls : List Call) (room : ℕ) (t : List ℕ) (next : Entry → Ran) where
   fault-moves : (f : Fault) → Moves (turnOf (Front.Faulty f) explained room calls t next)
-  fault-moves f = by-cond Moves _ _ (leb (length (faultLine f)) room) (λ _. inr (inl refl)) (λ _. inl refl)
+  fault-moves f = by-cond Moves (leb (length (faultLine f)) room) (λ _. inr (inl refl)) (λ _. inl refl)
 
   moves-turn : (r : Record) → Moves (turnOf (heardOf last r) explained room calls t next)
   moves-turn Record.End = inl refl
   moves-turn (Record.Taken e) =
-      by-cond Moves _ _ (leb (length (lineAt explained calls e t)) room) (λ _. inr (inr (omega (arith, least (e .kind))))) (λ _. inl refl)
+      by-cond Moves (leb (length (lineAt explained calls e t)) room) (λ _. inr (inr (omega (arith, least (e .kind))))) (λ _. inl refl)
   moves-turn (Record.Refused Fault.Kind) = fault-moves Fault.Kind
   moves-turn (Record.Refused Fault.Short) =
-      by-cond (λ f. Moves (turnOf f explained room calls t next)) _ _ last (λ _. fault-moves Fault.Short) (λ _. inl refl)
+      by-cond (λ f. Moves (turnOf f explained room calls t next)) last (λ _. fault-moves Fault.Short) (λ _. inl refl)
   moves-turn (Record.Refused Fault.Range) = fault-moves Fault.Range
 
 moves : (k : ℕ) (explained last : Bool) (room : ℕ) (calls : List Call) (t : List ℕ) → Moves (runIn k explained last room calls t)

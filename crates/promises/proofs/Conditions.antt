@@ -12,7 +12,7 @@ use Rattle.rights.specs.Rights.{hasOf}
 use Rattle.standing.specs.Standing.{inForceOf}
 use Rattle.serving.specs.Serving.{lateOf, servesTwoOf, servesThreeOf}
 use Rattle.promises.specs.Numbers.{InForce, Has, ServesTwo, ServesThree}
-use Rattle.ranges.proofs.Decide.{never, Decides, both, as-is, eq}
+use Rattle.decide.proofs.Decide.{never, Decides, both, as-is, eq}
 
 -- services
 in-force-so : (s : Standing) → inForceOf s ≡ true → InForce s

@@ -50,7 +50,7 @@ use Rattle.promises.specs.Numbers.{WellFormed, InForce, Has, ServesTwo, 
 use Rattle.promises.specs.Notes.{Bare, limitFor}
 use Rattle.promises.specs.Refusals.{sentTo}
 use Rattle.promises.specs.Handling.{handedIn, Goes, setup, alerting, connect, information, disconnect, Whole, Unaltered, Unnoted, Out, GoesOut, Explicit, Implied, Under, UnderAService}
-use Rattle.ranges.proofs.Decide.{never, by-cond, Decides, both, as-is, lt}
+use Rattle.decide.proofs.Decide.{never, by-cond, Decides, both, as-is, lt}
 use Rattle.promises.proofs.Heard.{bar-not-taken, Heard, through, barred, heard}
 use Rattle.promises.proofs.Conditions.{in-force, has, serves-two, serves-three}
 use Rattle.promises.proofs.Seen.{Sight, absent, malformed, too-long, whole, sight}

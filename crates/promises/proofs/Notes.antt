@@ -50,7 +50,7 @@ use Rattle.call.specs.Step.{notAnEventOf, stepOf}
 use Rattle.call.specs.Tick.{passesTickOf, tickOf}
 use Rattle.promises.specs.Numbers.{InForce, answerRows}
 use Rattle.promises.specs.Notes.{Refused, Bare, limitFor, Lacking, LacksRequired, Open, Fails, Comes, NotCarried, noteRows, Notes}
-use Rattle.ranges.proofs.Decide.{never, Decides, Denies, denied, via, either, neither, as-is, always}
+use Rattle.decide.proofs.Decide.{never, Decides, Denies, denied, via, either, neither, as-is, always}
 use Rattle.promises.proofs.Heard.{Bar, unsound, phase, range, Heard, through, barred, heard}
 use Rattle.ranges.proofs.Phases.{requested}
 use Rattle.promises.proofs.Conditions.{in-force, has}

@@ -38,7 +38,7 @@ use Rattle.call.specs.Step.{notAnEventOf, stepOf}
 use Rattle.call.specs.Tick.{passesTickOf, tickOf}
 use Rattle.ranges.specs.Ranges.{Unsound}
 use Rattle.promises.specs.Numbers.{NotAnEvent, Allowed, OutOfRange, WellFormed, Has, Asks, ServesTwo, ServesThree, IsRequest, IsAnswer, meterFrom, other, answerRows, Answers}
-use Rattle.ranges.proofs.Decide.{never, by-cond, Decides, Denies, denied, via, both, either, neither, as-is, always, over}
+use Rattle.decide.proofs.Decide.{never, by-cond, Decides, Denies, denied, via, both, either, neither, as-is, always, over}
 use Rattle.ranges.proofs.Phases.{fresh, requested, connectable, talking, active, up, live}
 use Rattle.ranges.proofs.Ranges.{unsound, reference-range, rights-range}
 use Rattle.promises.proofs.Conditions.{in-force, has, serves-two, serves-three}

@@ -40,7 +40,7 @@ use Rattle.call.specs.Step.{notAnEventOf}
 use Rattle.call.specs.Tick.{passesTickOf, tickOf}
 use Rattle.promises.specs.Numbers.{ServesThree}
 use Rattle.promises.specs.Refusals.{Unmoved, Marks, Drops, Rejects, Refusal, Refusals}
-use Rattle.ranges.proofs.Decide.{never, by-cond, Decides}
+use Rattle.decide.proofs.Decide.{never, by-cond, Decides}
 use Rattle.promises.proofs.Heard.{Bar, unsound, phase, range, Heard, through, barred, heard}
 use Rattle.promises.proofs.Conditions.{serves-three}
 

@@ -8,7 +8,7 @@ use lib.Dec.{leb, eqb}
 use Rattle.carriage.specs.declared.Seen.{Seen}
 use Rattle.carriage.specs.Element.{wellFormedOf, seenOf}
 use Rattle.promises.specs.Numbers.{WellFormed}
-use Rattle.ranges.proofs.Decide.{never, by-cond, Decides, via, both, le, eq}
+use Rattle.decide.proofs.Decide.{never, by-cond, Decides, via, both, le, eq}
 
 well-formed : (l : List ℕ) → Decides (wellFormedOf l) (WellFormed l)
 unfolding wellFormedOf

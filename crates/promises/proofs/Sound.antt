@@ -23,7 +23,7 @@ use Rattle.ranges.specs.Ranges.{Live, InRangeCall, Unsound}
 use Rattle.promises.specs.Numbers.{answerRows}
 use Rattle.ranges.proofs.Kept.{Follows, follows-in, answered-in, element-in, facility-in, tick-in, setup-in}
 use Rattle.promises.specs.Sound.{Offered, runOf, Sound, NeverUnsound}
-use Rattle.ranges.proofs.Decide.{never, both}
+use Rattle.decide.proofs.Decide.{never, both}
 use Rattle.promises.proofs.Numbers.{after, answers}
 use Rattle.promises.proofs.Heard.{Heard, through, barred, heard}
 use Rattle.ranges.proofs.Phases.{requested, connectable, talking, active, up, live}

@@ -39,7 +39,7 @@ use Rattle.call.specs.Sound.{inPhaseOf}
 use Rattle.call.specs.Step.{notAnEventOf, stepOf}
 use Rattle.call.specs.Tick.{runsOf, passesTickOf, tickOf}
 use Rattle.ranges.specs.Ranges.{ReferenceInRange, RightsInRange, MeterInRange, InRangeCall}
-use Rattle.ranges.proofs.Decide.{never, by-cond}
+use Rattle.decide.proofs.Decide.{never, by-cond}
 
 open-and : (a b : Bool) → (a && b) ≡ true → b ≡ true
 open-and true b h = h

@@ -1,4 +1,3 @@
-pub mod Decide
 pub mod Kept
 pub mod Phases
 pub mod Ranges

@@ -5,7 +5,7 @@ use mathlib.Core.Path.{_≡_, refl}
 use Rattle.phases.specs.declared.Phase.{Phase}
 use Rattle.phases.specs.Phase.{freshOf, requestedOf, connectableOf, talkingOf, activeOf, upOf, liveOf}
 use Rattle.ranges.specs.Ranges.{Up, Live}
-use Rattle.ranges.proofs.Decide.{never, Decides}
+use Rattle.decide.proofs.Decide.{never, Decides}
 
 fresh-so : (p : Phase) → freshOf p ≡ true → p ≡ Phase.Fresh
 fresh-so Phase.Fresh h = refl

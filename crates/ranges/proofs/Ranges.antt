@@ -10,7 +10,7 @@ use Rattle.rights.specs.Rights.{within, rightsFitOf, referenceFitsOf}
 use Rattle.phases.specs.Phase.{liveOf}
 use Rattle.call.specs.Sound.{fieldsFitOf, soundOf}
 use Rattle.ranges.specs.Ranges.{Live, Within, ReferenceInRange, RightsInRange, MeterInRange, InRangeCall, Unsound}
-use Rattle.ranges.proofs.Decide.{never, Decides, Denies, via, both, le}
+use Rattle.decide.proofs.Decide.{never, Decides, Denies, via, both, le}
 use Rattle.ranges.proofs.Phases.{live}
 
 within-range : (least n greatest : ℕ) → Decides (within least n greatest) (Within least n greatest)

@@ -22,11 +22,13 @@ use Rattle.body.specs.Kind.{kindOf, sizeOf}
 use Rattle.values.specs.Values.{flagOf, sideOf, requestOf, givenOf, whatOf}
 use Rattle.trace.specs.Reading.{referenceOf, rightsOf, requestsOf, answersOf, eventOf, placeOf, countOf, entryOf, recordOf}
 use Rattle.recorded.specs.Recorded.{elementOf}
-use Rattle.recorder.specs.Writing.{flagOctet, sideOctet, requestOctet, givenOctet, whatOctet, fieldOctets, headOctets, recordOctets, elementFitsOf, recordFitsOf}
+use Rattle.recorder.specs.Writing.{flagOctet, sideOctet, requestOctet, givenOctet, whatOctet, fieldOctets, headOctets, recordOctets, recordFitsOf}
 use Rattle.trace.specs.Promises.{Zeros, Held, Field, InRange}
 use Rattle.recorder.specs.Promises.{Again}
-use Rattle.trace.proofs.Tests.{both}
-use Rattle.recorder.proofs.Sizing.{Whole, element-in, element-small, field-is}
+use Rattle.decide.proofs.Tests.{both}
+use Rattle.writable.specs.Writable.{elementFitsOf}
+use Rattle.writable.proofs.Whole.{Whole, element-in, element-small}
+use Rattle.recorder.proofs.Sizing.{field-is}
 use Rattle.trace.proofs.Ranged.{ranged}
 use Rattle.trace.proofs.Naming.{named-taken}
 

@@ -2,9 +2,10 @@
 use Prim.Native.Nat.{ℕ, _-_, _/_, _%_}
 use mathlib.Core.List.{List, [], _∷_, _++_}
 use mathlib.Core.Path.{_≡_}
-use mathlib.Core.Bool.{Bool, true, false, cond, not, _&&_}
-use lib.ListN.{length, getD, take, replicate}
+use mathlib.Core.Bool.{Bool, true, false, not, _&&_}
+use lib.ListN.{length, take, replicate}
 use lib.Dec.{ltb, eqb}
+use Rattle.writable.specs.Writable.{elementFitsOf}
 use Rattle.events.specs.declared.Event.{Event}
 use Rattle.asking.specs.declared.What.{What}
 use Rattle.sides.specs.declared.Side.{Side}
@@ -88,14 +89,6 @@ tailOctets false u = []
 
 unfoldable pub recordOctets : ℕ → Event → List ℕ → List ℕ
 recordOctets r e u = headOctets r e ++ tailOctets (fieldedOf e) u
-
--- an element that a field can hold: absent, or 2 to 131 octets beginning 126 and the length less 2
-unfoldable pub elementFitsOf : List ℕ → Bool
-elementFitsOf u =
-    cond (eqb (length u) 0) true
-    (cond (ltb (length u) 2) false
-    (cond (ltb 131 (length u)) false
-    (cond (eqb (getD u 0 0) 126) (eqb (getD u 1 0) (length u - 2)) false)))
 
 -- what a trace can hold of an event: X and Y in one octet, one reference, no More data, a cause up to 127, and none of the two
 -- messages that are no events

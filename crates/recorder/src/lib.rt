@@ -6,7 +6,7 @@ ghost use Prim.Native.Nat.{_≤_, _+_, _/_, _%_};
 ghost use lib.ListN.{length, take};
 ghost use Rattle.events.specs.declared.Event.{Event};
 ghost use Rattle.room.specs.Room.{Written};
-ghost use Rattle.recorder.specs.Writing.{flagOctet, sideOctet, requestOctet, givenOctet, whatOctet, fieldOctets, headOctets, Holds, sidedOctets, answersOctets, fieldedOf, recordOctets, elementFitsOf, eventFitsOf, recordFitsOf};
+ghost use Rattle.recorder.specs.Writing.{flagOctet, sideOctet, requestOctet, givenOctet, whatOctet, fieldOctets, headOctets, Holds, sidedOctets, answersOctets, fieldedOf, recordOctets, eventFitsOf, recordFitsOf};
 use asking::What;
 use events::Event;
 use rights::Rights;
@@ -18,6 +18,7 @@ use standing::Answers;
 use standing::Given;
 use standing::Request;
 use standing::Requests;
+use writable::element_fits;
 
 // What comes before the element field of a record: its first octets, so many as `size` says.
 struct Head {
@@ -81,23 +82,6 @@ fn low(x: u16) -> u8
     ensures { λ r. ⌜ r ≡ x % 256 ⌝ }
 {
     (x % 256) as u8
-}
-
-fn wide(x: u8) -> usize
-    ensures { λ r. ⌜ r ≡ x ⌝ }
-{
-    x as usize
-}
-
-// Nothing, or a whole user-user element of 2 to 131 octets.
-fn element_fits(u: &[u8]) -> bool
-    ensures { λ t. ⌜ t ≡ elementFitsOf (now (u .entry)) ⌝ }
-{
-    let n = u.len();
-    if n < 2 {
-        return n == 0;
-    }
-    (n <= 131) & (u[0] == 126) & (wide(u[1]) == n - 2)
 }
 
 fn fielded(e: Event) -> bool

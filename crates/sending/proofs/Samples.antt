@@ -33,10 +33,11 @@ use Rattle.single.specs.Single.{singleOf}
 use Rattle.elements.specs.Meaning.{firstSingle, firstCause, firstPlace, components, readingOf, takenOf}
 use Rattle.message.specs.Reading.{headedOf, readOf}
 use Rattle.parts.specs.Parts.{userUserOf}
-use Rattle.fitting.specs.Fitting.{userFits, messageFits}
+use Rattle.writable.specs.Writable.{elementFitsOf}
+use Rattle.fitting.specs.Fitting.{messageFits}
 use Rattle.sizes.specs.Writing.{frontOctets, messageOctets}
 use Rattle.sending.specs.Samples.{Samples}
 
 pub samples : Samples
-unfolding emptyOf meterFitsOf grantedOf countedOf spentOf markedOf underThreeOf passageOf wellFormedOf seenOf goesOutOf rightsFitOf referenceFitsOf remainsOf firstStandingOf standingsOf lacksOf passedRequestsOf networkRefusalsOf failedOf settlesOf tellsOf declinesOf silence nobodyAsks sayingOf bareOf congestionOf informsOf onlyIfOf noRights noServices emptyMeters freshCall fieldsFitOf soundOf inPhaseOf barOf refusedOf heardOf replyOf setupPhaseOf filledOf toCallerOf toCalledOf setupCarriesOf proceedsOf setupOf grantsOf answeredCallOf goesOnOf clearsOf alertingFatesOf connectFatesOf answeredOf alertingOf connectOf metersOf informationPassageOf carriedOf withElementOf informationOf refilledOf tickedOf toRequestOf toAnswerOf silentAnswers closingFacilitiesOf closedCallOf passedOnOf disconnectOf facilityVerdictOf facilityCallOf aboutThreeOf passesFacilityOf facilityOf tickedMetersOf refillsOf readyOf runsOf passesTickOf tickOf notAnEventOf causeOf size stand spells filled serviceOf wishOf refusalOf readAs invokeOf resultOf errorOf componentOf placed wroteOf leftOf then elements counted kindOf singleOf firstSingle firstCause firstPlace components readingOf takenOf headedOf readOf userUserOf frontOctets messageOctets userFits messageFits
+unfolding emptyOf meterFitsOf grantedOf countedOf spentOf markedOf underThreeOf passageOf wellFormedOf seenOf goesOutOf rightsFitOf referenceFitsOf remainsOf firstStandingOf standingsOf lacksOf passedRequestsOf networkRefusalsOf failedOf settlesOf tellsOf declinesOf silence nobodyAsks sayingOf bareOf congestionOf informsOf onlyIfOf noRights noServices emptyMeters freshCall fieldsFitOf soundOf inPhaseOf barOf refusedOf heardOf replyOf setupPhaseOf filledOf toCallerOf toCalledOf setupCarriesOf proceedsOf setupOf grantsOf answeredCallOf goesOnOf clearsOf alertingFatesOf connectFatesOf answeredOf alertingOf connectOf metersOf informationPassageOf carriedOf withElementOf informationOf refilledOf tickedOf toRequestOf toAnswerOf silentAnswers closingFacilitiesOf closedCallOf passedOnOf disconnectOf facilityVerdictOf facilityCallOf aboutThreeOf passesFacilityOf facilityOf tickedMetersOf refillsOf readyOf runsOf passesTickOf tickOf notAnEventOf causeOf size stand spells filled serviceOf wishOf refusalOf readAs invokeOf resultOf errorOf componentOf placed wroteOf leftOf then elements counted kindOf singleOf firstSingle firstCause firstPlace components readingOf takenOf headedOf readOf userUserOf frontOctets messageOctets elementFitsOf messageFits
 samples = (refl, refl, (refl, refl, (refl, refl, (refl, refl, (refl, refl, (refl, refl, (refl, refl, tt)))))))

@@ -68,7 +68,7 @@ use Rattle.promises.specs.Notes.{limitFor}
 use Rattle.promises.specs.Refusals.{sentTo}
 use Rattle.promises.specs.Handling.{handedIn, handedTo}
 use Rattle.sending.specs.Sending.{kindFor, singleFor, causeFor, componentFor, Host, HostInRange, facilitiesFor, wireOf, Sending}
-use Rattle.ranges.proofs.Decide.{by-cond, both, le}
+use Rattle.decide.proofs.Decide.{by-cond, both, le}
 use Rattle.promises.proofs.Heard.{Heard, through, barred, heard}
 use Rattle.ranges.proofs.Phases.{requested, connectable, talking, active, up, live}
 use Rattle.ranges.proofs.Ranges.{reference-range, rights-range, in-range}

@@ -1,7 +1,7 @@
 -- The digits of a number, one by one from the last.
 use Prim.Native.Nat.{ℕ, zero, suc, _+_, _-_, _/_, _%_, _^_, _<_, _≤_}
 use mathlib.Core.List.{List, _∷_, _++_, append-assoc, append-nil}
-use mathlib.Core.Bool.{Bool, true, false, cond}
+use mathlib.Core.Bool.{false}
 use mathlib.Core.Path.{_≡_, refl, sym, ap, _∙_}
 use native.Mathlib.Omega.{arith}
 use native.Mathlib.Nat.{pow-suc, div-lt-iff-lt-mul}
@@ -9,11 +9,8 @@ use borrow.Author.Tests.{lt-ltb, le-ltb, ltb-false}
 use lib.Dec.{ltb, lit<}
 use lib.ListN.{length, take, drop, set, length-append, length-set, length-drop, drop-of-length-le}
 use lib.Seq.{take-all, drop-cons, getD-set-same, drop-set-lt}
+use Rattle.decide.proofs.Decide.{by-cond}
 use Rattle.text.specs.Decimal.{lastDigit, digitsOf, decimalOf}
-
-by-cond : {A : Type 0} (P : A → Type 0) (a b : A) (t : Bool) → (t ≡ true → P a) → (t ≡ false → P b) → P (cond t a b)
-by-cond P a b true h k = h refl
-by-cond P a b false h k = k refl
 
 tenth : (k n : ℕ) → n ≤ suc k → ltb n 10 ≡ false → n / 10 ≤ k
 tenth k n p h = let q = ltb-false n 10 h in omega arith
@@ -25,7 +22,7 @@ enough zero zero n p q = refl
 enough zero (suc g) n p q = simp (lt-ltb n 10 (omega arith))
 enough (suc f) zero n p q = simp (lt-ltb n 10 (omega arith))
 enough (suc f) (suc g) n p q =
-    by-cond (λ (l : List ℕ). l ≡ digitsOf (suc g) n) _ _ (ltb n 10) (λ h. simp h) (λ h. simp h (ap (λ (l : List ℕ). l ++ lastDigit n) (enough f g (n / 10) (tenth f n p h) (tenth g n q h))))
+    by-cond (λ (l : List ℕ). l ≡ digitsOf (suc g) n) (ltb n 10) (λ h. simp h) (λ h. simp h (ap (λ (l : List ℕ). l ++ lastDigit n) (enough f g (n / 10) (tenth f n p h) (tenth g n q h))))
 
 -- a number below ten is one digit
 pub one-digit : (n : ℕ) → n < 10 → decimalOf n ≡ lastDigit n
@@ -46,7 +43,7 @@ unfolding digitsOf
 few zero k n h = omega arith
 few (suc f) zero n h = rw (lt-ltb n 10 (omega arith)) (omega arith)
 few (suc f) (suc k) n h =
-    by-cond (λ (l : List ℕ). length l ≤ suc (suc k)) _ _ (ltb n 10) (λ t. omega arith)
+    by-cond (λ (l : List ℕ). length l ≤ suc (suc k)) (ltb n 10) (λ t. omega arith)
     (λ t. simp length-append (let d = few f k (n / 10) (div-lt-iff-lt-mul (lit< tt) .1 (rw pow-suc at h)) in omega arith))
 
 pub at-most : (k n : ℕ) → n < 10 ^ suc k → length (decimalOf n) ≤ suc k
@@ -85,7 +82,7 @@ down-none n d e h =
 pub some : (n : ℕ) → 1 ≤ length (decimalOf n)
 unfolding decimalOf digitsOf
 some zero = omega arith
-some (suc k) = by-cond (λ (l : List ℕ). 1 ≤ length l) _ _ (ltb (suc k) 10) (λ t. omega arith) (λ t. simp length-append (omega arith))
+some (suc k) = by-cond (λ (l : List ℕ). 1 ≤ length l) (ltb (suc k) 10) (λ t. omega arith) (λ t. simp length-append (omega arith))
 
 pub down-one : (n rest i x : ℕ) (d : List ℕ) → 10 ≤ rest → x ≡ 48 + rest % 10 → Down n rest i d → Down n (rest / 10) (i - 1) (set d (i - 1) x)
 down-one n rest i x d h e w =

@@ -1,4 +1,3 @@
-pub mod Tests
 pub mod Naming
 pub mod Ranged
 pub mod Promises

@@ -1,7 +1,7 @@
 -- The reader's test of a record and what the paper says is in range are one.
 use Prim.Native.Nat.{ℕ, zero, suc, _+_, _-_, _<_, _≤_}
 use mathlib.Core.List.{List, [], _∷_}
-use mathlib.Core.Bool.{Bool, true, false, cond, _&&_}
+use mathlib.Core.Bool.{Bool, true, false, cond}
 use mathlib.Core.Logic.{inl, inr, ⊎-elim}
 use mathlib.Core.Path.{_≡_, refl, sym, ap, _∙_}
 use native.Mathlib.Omega.{arith}
@@ -14,7 +14,7 @@ use Rattle.body.specs.Kind.{sizeOf}
 use Rattle.body.specs.Field.{blankOf, fieldFitsOf}
 use Rattle.trace.specs.Reading.{fieldAtOf, closesOf, rangedOf}
 use Rattle.trace.specs.Promises.{Zeros, Field, Three, InRange}
-use Rattle.trace.proofs.Tests.{both, if-so, if-not}
+use Rattle.decide.proofs.Tests.{both, if-so, if-not}
 
 -- zeros, one by one
 blank-each : (l : List ℕ) → blankOf l ≡ true → (i : ℕ) → getD l i 0 ≡ 0

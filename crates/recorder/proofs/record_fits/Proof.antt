@@ -2,11 +2,6 @@ use Rattle.recorder.specs.Writing.{recordFitsOf}
 use borrow.Author.Needs.{needs}
 use Rattle.recorder.proofs.record_fits.Statement.{statement}
 use Rattle.recorder.proofs.record_fits.Tie as tie
-use Rattle.recorder.proofs.record_fits.Reads as reads
-use Rattle.recorder.proofs.record_fits.Lts as lts
-use Rattle.recorder.proofs.element_fits.Reads as element-fits-reads
-use Rattle.recorder.proofs.event_fits.Reads as event-fits-reads
-use Rattle.recorder.proofs.fielded.Reads as fielded-reads
 
 fielded-requires : tie.Need-fielded-requires
 fielded-requires c κs = search needs

@@ -3,13 +3,10 @@ use Rattle.component.specs.Facility.{componentFits}
 use native.Mathlib.Omega.{arith}
 use lib.ListN.{length-append}
 use Rattle.room.proofs.Pieces.{no-put, puts}
-use Rattle.fitting.proofs.Ranges.{both}
+use Rattle.decide.proofs.Tests.{both}
 use borrow.Author.Needs.{needs}
 use Rattle.writer.proofs.put_facilities.Statement.{statement}
 use Rattle.writer.proofs.put_facilities.Tie as tie
-use Rattle.writer.proofs.put_facilities.Reads as reads
-use Rattle.writer.proofs.put_facilities.Lts as lts
-use Rattle.writer.proofs.put_component.Reads as put-component-reads
 
 enum-told : tie.Need-enum-told
 enum-told c = search needs

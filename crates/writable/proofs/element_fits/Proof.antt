@@ -1,10 +1,7 @@
-use Rattle.recorder.proofs.Sizing.{short, whole}
+use Rattle.writable.proofs.Whole.{short, long}
 use borrow.Author.Needs.{needs}
-use Rattle.recorder.proofs.element_fits.Statement.{statement}
-use Rattle.recorder.proofs.element_fits.Tie as tie
-use Rattle.recorder.proofs.element_fits.Reads as reads
-use Rattle.recorder.proofs.element_fits.Lts as lts
-use Rattle.recorder.proofs.wide.Reads as wide-reads
+use Rattle.writable.proofs.element_fits.Statement.{statement}
+use Rattle.writable.proofs.element_fits.Tie as tie
 
 returns : tie.Need-returns
 returns c = short (c .before .before .args .u .now) (c .if1 .taken)
@@ -19,7 +16,7 @@ wide-requires : tie.Need-wide-requires
 wide-requires c κs = search needs
 
 returns-2 : tie.Need-returns-2
-returns-2 c = whole (c .before .before .before .before .before .args .u .now) (c .wide .result) (c .wide .ensures) (c .before .before .before .if1 .left)
+returns-2 c = long (c .before .before .before .before .before .args .u .now) (c .wide .result) (c .wide .ensures) (c .before .before .before .if1 .left)
 
 pub element-fits-spec : {M : Type 1} → statement M
 element-fits-spec =

@@ -1,0 +1,14 @@
+-- The user-user element as it can be written.
+use Prim.Native.Nat.{ℕ, _-_}
+use mathlib.Core.List.{List}
+use mathlib.Core.Bool.{Bool, true, false, cond}
+use lib.ListN.{length, getD}
+use lib.Dec.{ltb, eqb}
+
+-- "elements 2 to 131 octets beginning 7E and the length less 2"; no octets at all is an absent element
+unfoldable pub elementFitsOf : List ℕ → Bool
+elementFitsOf u =
+    cond (eqb (length u) 0) true
+    (cond (ltb (length u) 2) false
+    (cond (ltb 131 (length u)) false
+    (cond (eqb (getD u 0 0) 0x7E) (eqb (getD u 1 0) (length u - 2)) false)))
