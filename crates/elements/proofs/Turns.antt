@@ -1,7 +1,7 @@
 -- One turn of the scan: what was found and what is left give what there was.
 use Prim.Native.Nat.{ℕ, _<_, _≤_}
 use mathlib.Core.List.{List, [], append-nil}
-use mathlib.Core.Bool.{Bool, true, false}
+use mathlib.Core.Bool.{Bool, true, false, cond}
 use mathlib.Core.Logic.{_⊎_, inl, inr}
 use mathlib.Core.Path.{_≡_, refl, sym}
 use native.Mathlib.Omega.{arith}
@@ -17,7 +17,7 @@ use Rattle.found.specs.declared.Found.{Found}
 use Rattle.elements.specs.declared.Fault.{Fault}
 use Rattle.elements.specs.declared.Read.{Read}
 use Rattle.elements.specs.declared.End.{End}
-use Rattle.elements.specs.Elements.{Element, Split, cut, whole, then, elements, counted, between, Ended, Ends}
+use Rattle.elements.specs.Elements.{Element, Split, cut, whole, then, elements, isWhole, counted, between, Ended, Ends}
 use Rattle.single.specs.Single.{orSingle}
 use Rattle.found.specs.Found.{causeSeen}
 use Rattle.elements.specs.Meaning.{firstSingle, firstCause, firstPlace, components, firstThree, readingOf, takenOf}
@@ -32,6 +32,22 @@ module _ (m : List ℕ) (i : ℕ) (x : End) where
   pub is-cut : x ≡ End.Cut → Ends m i x → elements i 0 (drop i m) ≡ cut
   is-cut p h = rw p at h
 
+-- whether every part is there, one element at a time
+whole-then : (e : Element) (s : Split) → isWhole s ≡ isWhole (then e s)
+unfolding then
+whole-then e cut = refl
+whole-then e (whole es) = refl
+
+module _ (m : List ℕ) (i : ℕ) where
+  pub whole-turn : (e : ℕ) → Ended m i e → isWhole (elements e 0 (drop e m)) ≡ isWhole (elements i 0 (drop i m))
+  whole-turn e t = rw (t .turn) (whole-then (between m i e) (elements e 0 (drop e m)))
+
+  pub whole-cut : elements i 0 (drop i m) ≡ cut → false ≡ isWhole (elements i 0 (drop i m))
+  whole-cut c = rw c refl
+
+  pub whole-end : length m ≤ i → true ≡ isWhole (elements i 0 (drop i m))
+  whole-end c = rw (none-left m i c) refl
+
 abbrev pub nothing : Found
 nothing = record { single = Single.Absent; cause = Seen.Unseen; facility = Facilities.Zero; user = Place.Absent }
 
@@ -40,10 +56,9 @@ unfoldable pub goingOn : Header → Bool → Found → Split → Read
 goingOn h pass f cut = Read.Refused Fault.Short
 goingOn h pass f (whole es) = Read.Taken (readingFrom h f (counted pass es))
 
--- the answer where f was found, and the rest is only split
+-- the answer where f was found, and of the rest only the lengths count
 unfoldable pub locked : Header → Found → Split → Read
-locked h f cut = Read.Refused Fault.Short
-locked h f (whole es) = takenWith h f
+locked h f s = cond (isWhole s) (takenWith h f) (Read.Refused Fault.Short)
 
 pub at-first : (h : Header) (s : Split) → goingOn h false nothing s ≡ takenOf h s
 unfolding goingOn takenOf readingFrom readingOf
@@ -99,11 +114,6 @@ module _ (h : Header) where
   notes f g e (whole es) a (inr b) =
       simp (le-leb 144 (e .id) (omega arith), lt-leb (e .id) 151 (omega arith), le-leb 152 (e .id) (omega arith), lt-leb (e .id) 159 (omega arith), a .same (counted false es))
 
-  stays : (f : Found) (e : Element) (s : Split) → locked h f s ≡ locked h f (then e s)
-  unfolding then locked
-  stays f e cut = refl
-  stays f e (whole es) = refl
-
   -- the same at a place of m
   module _ (m : List ℕ) (i e : ℕ) (f : Found) (t : Ended m i e) where
     pub on-pass : (pass : Bool) → pass ≡ true → goingOn h false f (elements e 0 (drop e m)) ≡ goingOn h pass f (elements i 0 (drop i m))
@@ -118,23 +128,22 @@ module _ (h : Header) where
     pub on-note : (pass : Bool) (g : Found) → pass ≡ false → Adds h f (between m i e) g → (getD m i 0 < 144) ⊎ (160 ≤ getD m i 0) → goingOn h pass g (elements e 0 (drop e m)) ≡ goingOn h pass f (elements i 0 (drop i m))
     on-note pass g p a b = rw (p, t .turn) (notes f g (between m i e) (elements e 0 (drop e m)) a b)
 
-    pub on-rest : locked h f (elements e 0 (drop e m)) ≡ locked h f (elements i 0 (drop i m))
-    on-rest = rw (t .turn) (stays f (between m i e) (elements e 0 (drop e m)))
-
   -- the ways out
   module _ (m : List ℕ) (i : ℕ) (f : Found) where
     pub out-cut : (pass : Bool) → elements i 0 (drop i m) ≡ cut → Read.Refused Fault.Short ≡ goingOn h pass f (elements i 0 (drop i m))
     unfolding goingOn
     out-cut pass c = rw c refl
 
-    pub out-cut-rest : elements i 0 (drop i m) ≡ cut → Read.Refused Fault.Short ≡ locked h f (elements i 0 (drop i m))
-    unfolding locked
-    out-cut-rest c = rw c refl
-
     pub out-end : (pass : Bool) → length m ≤ i → locked h f (elements i 0 (drop i m)) ≡ goingOn h pass f (elements i 0 (drop i m))
     unfolding goingOn locked counted
     out-end pass c = rw (none-left m i c) (sym (at-last h f))
 
-    pub out-rest : length m ≤ i → takenWith h f ≡ locked h f (elements i 0 (drop i m))
+  -- past the scan every part is there, or not
+  module _ (f : Found) (s : Split) where
+    pub out-short : isWhole s ≡ false → Read.Refused Fault.Short ≡ locked h f s
     unfolding locked
-    out-rest c = rw (none-left m i c) refl
+    out-short c = rw c refl
+
+    pub out-whole : isWhole s ≡ true → takenWith h f ≡ locked h f s
+    unfolding locked
+    out-whole c = rw c refl

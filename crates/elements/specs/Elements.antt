@@ -21,6 +21,11 @@ pub data Split : Type 0 where
   cut : Split
   whole : List Element → Split
 
+-- whether the octets have every part that they announce
+abbrev pub isWhole : Split → Bool
+isWhole cut = false
+isWhole (whole es) = true
+
 unfoldable pub then : Element → Split → Split
 then e cut = cut
 then e (whole es) = whole (e ∷ es)

@@ -2,7 +2,7 @@
 ghost use mathlib.Core.Path.{_≡_};
 ghost use Prim.Native.Nat.{_<_, _≤_, _+_};
 ghost use lib.ListN.{length, getD, drop};
-ghost use Rattle.elements.specs.Elements.{Ends, between, elements};
+ghost use Rattle.elements.specs.Elements.{Ends, between, elements, isWhole};
 ghost use Rattle.elements.specs.Meaning.{takenOf};
 ghost use Rattle.elements.specs.Scan.{Adds, takenWith};
 use fields::Facilities;
@@ -128,6 +128,20 @@ fn taken(h: Header, f: Found) -> Read
     })
 }
 
+// Whether the octets from a place on have every part that they announce.
+fn ends_whole(m: &[u8], start: usize) -> bool
+    ensures { λ r. ⌜ r ≡ isWhole (elements start 0 (drop start (now (m .entry)))) ⌝ }
+{
+    let mut i = start;
+    while i < m.len() {
+        let End::To(e) = end_of(m, i) else {
+            return false;
+        };
+        i = e;
+    }
+    true
+}
+
 // The elements from a place on. A locking shift ends the search; the lengths after it are still checked.
 pub fn scan(m: &[u8], start: usize, h: Header) -> Read
     ensures { λ r. ⌜ r ≡ takenOf h (elements start 0 (drop start (now (m .entry)))) ⌝ }
@@ -141,43 +155,29 @@ pub fn scan(m: &[u8], start: usize, h: Header) -> Read
         user: Place::Absent,
     };
     'scan: while i < m.len() {
-        match end_of(m, i) {
-            End::Cut => {
-                return Read::Refused(Fault::Short);
-            }
-            End::To(e) => {
-                if pass {
-                    pass = false;
-                    i = e;
-                } else {
-                    let x = m[i];
-                    match x {
-                        0x90..=0x97 => {
-                            i = e;
-                            break 'scan;
-                        }
-                        0x98..=0x9F => {
-                            pass = true;
-                            i = e;
-                        }
-                        _ => {
-                            f = note(h, f, m, i, e);
-                            i = e;
-                        }
-                    }
+        let at = i;
+        let End::To(e) = end_of(m, at) else {
+            return Read::Refused(Fault::Short);
+        };
+        i = e;
+        if pass {
+            pass = false;
+        } else {
+            match m[at] {
+                0x90..=0x97 => {
+                    break 'scan;
+                }
+                0x98..=0x9F => {
+                    pass = true;
+                }
+                _ => {
+                    f = note(h, f, m, at, e);
                 }
             }
         }
     }
-    'rest: while i < m.len() {
-        match end_of(m, i) {
-            End::Cut => {
-                return Read::Refused(Fault::Short);
-            }
-            End::To(e) => {
-                i = e;
-            }
-        }
+    if !ends_whole(m, i) {
+        return Read::Refused(Fault::Short);
     }
     taken(h, f)
 }
