@@ -40,6 +40,35 @@ fn refusal_octet(e: Refusal) -> u8
     }
 }
 
+// The element of a request: the service that is asked for, and whether it is preferred or required.
+fn invoke_octets(id: u8, s: Service, w: Wish) -> [u8; 19]
+    ensures { λ r. ⌜ r ≡ facilityOctets (Component.Invoke id s w) ⌝ }
+{
+    let service = service_octet(s);
+    let wish = wish_octet(w);
+    [
+        0x1C,
+        17,
+        0x91,
+        0xA1,
+        14,
+        2,
+        1,
+        id,
+        2,
+        1,
+        1,
+        0x30,
+        6,
+        0x81,
+        1,
+        service,
+        0x82,
+        1,
+        wish,
+    ]
+}
+
 // Writes the whole element.
 pub fn write_facility(buf: &mut [u8], at: usize, c: Component) -> Wrote
     ensures { λ r. ⌜ Written (componentFits c) at (facilityOctets c) (now (buf .entry)) (now (buf .exit)) r ⌝ }
@@ -49,29 +78,7 @@ pub fn write_facility(buf: &mut [u8], at: usize, c: Component) -> Wrote
     }
     match c {
         Component::Invoke(id, s, w) => {
-            let service = service_octet(s);
-            let wish = wish_octet(w);
-            let element = [
-                0x1C,
-                17,
-                0x91,
-                0xA1,
-                14,
-                2,
-                1,
-                id,
-                2,
-                1,
-                1,
-                0x30,
-                6,
-                0x81,
-                1,
-                service,
-                0x82,
-                1,
-                wish,
-            ];
+            let element = invoke_octets(id, s, w);
             write_octets(buf, at, &element)
         }
         Component::Accepted(id) => {

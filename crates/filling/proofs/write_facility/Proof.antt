@@ -8,9 +8,8 @@ use Rattle.filling.proofs.write_facility.Tie as tie
 use Rattle.filling.proofs.write_facility.Reads as reads
 use Rattle.filling.proofs.write_facility.Lts as lts
 use Rattle.component.proofs.facility.component_fits.Reads as component-fits-reads
+use Rattle.filling.proofs.invoke_octets.Reads as invoke-octets-reads
 use Rattle.filling.proofs.refusal_octet.Reads as refusal-octet-reads
-use Rattle.filling.proofs.service_octet.Reads as service-octet-reads
-use Rattle.filling.proofs.wish_octet.Reads as wish-octet-reads
 use Rattle.room.proofs.write_octets.Reads as write-octets-reads
 
 component-fits-requires : tie.Need-component-fits-requires
@@ -22,11 +21,8 @@ returns c = barred (sym (c .before .component-fits .ensures) ∙ not-true _ (c .
 enum-known-c : tie.Need-enum-known-c
 enum-known-c c = search needs
 
-service-octet-requires : tie.Need-service-octet-requires
-service-octet-requires c κs = search needs
-
-wish-octet-requires : tie.Need-wish-octet-requires
-wish-octet-requires c κs = search needs
+invoke-octets-requires : tie.Need-invoke-octets-requires
+invoke-octets-requires c κs = search needs
 
 slice-aggregate-write-octets : tie.Need-slice-aggregate-write-octets
 slice-aggregate-write-octets c = search needs
@@ -59,10 +55,9 @@ same-length : tie.Need-same-length
 same-length c = search needs
 
 returns-2 : tie.Need-returns-2
-unfolding filled
 returns-2 c =
-    in-range (sym (c .before .before .before .before .before .before .before .before .before .before .before .component-fits .ensures) ∙ not-false _ (c .before .before .before .before .before .before .before .before .before .before .if1 .left))
-    (rw (c .before .before .before .before .before .before .before .before .c .given .1, ← (c .before .before .before .before .before .wish-octet .ensures), ← (c .before .before .before .before .before .before .service-octet .ensures)) (c .before .before .write-octets .ensures))
+    in-range (sym (c .before .before .before .before .before .before .before .before .before .before .component-fits .ensures) ∙ not-false _ (c .before .before .before .before .before .before .before .before .before .if1 .left))
+    (rw (c .before .before .before .before .before .before .before .c .given .1, ← (c .before .before .before .before .before .invoke-octets .ensures)) (c .before .before .write-octets .ensures))
 
 same-length-2 : tie.Need-same-length-2
 same-length-2 c = search needs
@@ -89,8 +84,7 @@ write-facility-spec =
     component-fits-requires
     returns
     enum-known-c
-    service-octet-requires
-    wish-octet-requires
+    invoke-octets-requires
     slice-aggregate-write-octets
     write-octets-requires
     enum-known-c-2
