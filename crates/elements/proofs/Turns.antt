@@ -33,7 +33,7 @@ module _ (m : List ℕ) (i : ℕ) (x : End) where
   is-cut p h = rw p at h
 
 -- whether every part is there, one element at a time
-whole-then : (e : Element) (s : Split) → isWhole s ≡ isWhole (then e s)
+pub whole-then : (e : Element) (s : Split) → isWhole s ≡ isWhole (then e s)
 unfolding then
 whole-then e cut = refl
 whole-then e (whole es) = refl

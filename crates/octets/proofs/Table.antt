@@ -16,28 +16,20 @@ use Rattle.fields.specs.declared.Header.{Header}
 use Rattle.elements.specs.declared.Fault.{Fault}
 use Rattle.elements.specs.declared.Read.{Read}
 use Rattle.kinds.specs.Kind.{kindOf}
-use Rattle.elements.specs.Elements.{Element, Split, cut, whole, then, elements}
+use Rattle.elements.specs.Elements.{Element, Split, cut, whole, then, elements, isWhole}
 use Rattle.elements.specs.Meaning.{takenOf}
 use Rattle.message.specs.Reading.{widthOf, headerOf, typedOf, headedOf, readOf}
 use Rattle.elements.specs.Numbers.{faultNumber, readNumber}
 use Rattle.octets.specs.Promises.{Whole, none, alone, announced, readRows}
 use Rattle.elements.proofs.Splitting as split
+use Rattle.elements.proofs.Turns.{whole-then}
 use Rattle.decide.proofs.Decide.{by-cond}
-
-abbrev isWhole : Split → Bool
-isWhole cut = false
-isWhole (whole es) = true
-
-then-whole : (e : Element) (s : Split) → isWhole (then e s) ≡ isWhole s
-unfolding then
-then-whole e cut = refl
-then-whole e (whole es) = refl
 
 splits : {l : List ℕ} → Whole l → (p : ℕ) → isWhole (elements p 0 l) ≡ true
 unfolding elements
 splits none p = refl
-splits (alone {x} {l} h w) p = rw (split.alone p x l h, then-whole) (splits w (suc p))
-splits (announced {x} b l h w) p = rw (split.lengthy p (p + 2 + length b) x b l h refl, then-whole) (splits w (p + 2 + length b))
+splits (alone {x} {l} h w) p = rw (split.alone p x l h, ← (whole-then _ _)) (splits w (suc p))
+splits (announced {x} b l h w) p = rw (split.lengthy p (p + 2 + length b) x b l h refl, ← (whole-then _ _)) (splits w (p + 2 + length b))
 
 again : (x n : ℕ) (ys : List ℕ) → x < 128 → n ≤ length ys → Whole (drop n ys) → Whole (x ∷ n ∷ ys)
 again x n ys h k w = rw (length-take-le n ys k, take-append-drop n ys) at (announced {x = x} (take n ys) (drop n ys) h w)
@@ -54,8 +46,8 @@ joins p (suc k) (x ∷ xs) h = let t = joins (suc p) k xs h in (omega arith, t .
 joins p zero (x ∷ xs) h = (
   omega arith,
   by-cond (λ (s : Split). isWhole s ≡ true → Whole (x ∷ xs)) (leb 0x80 x)
-      (λ t e. alone (leb-true _ _ t) (joins (suc p) zero xs (sym (then-whole _ _) ∙ e) .1))
-      (λ t e. let i = joins (suc p) (suc (getD xs 0 0)) xs (sym (then-whole _ _) ∙ e) in lengthy x xs (leb-false _ _ t) (i .0) (i .1))
+      (λ t e. alone (leb-true _ _ t) (joins (suc p) zero xs (whole-then _ _ ∙ e) .1))
+      (λ t e. let i = joins (suc p) (suc (getD xs 0 0)) xs (whole-then _ _ ∙ e) in lengthy x xs (leb-false _ _ t) (i .0) (i .1))
       h,
 )
 
