@@ -6,6 +6,7 @@ use Rattle.call.specs.declared.Call.{Call}
 use Rattle.call.specs.Sound.{soundOf}
 use Rattle.phases.specs.Phase.{liveOf}
 use Rattle.choosing.specs.declared.choice.Found.{Found}
+use Rattle.looking.specs.declared.Sought.{Sought}
 
 -- a live record of the reference n
 abbrev pub liveAs : Call → ℕ → Bool
@@ -14,6 +15,11 @@ liveAs c n = liveOf (c .phase) && eqb (c .reference) n
 -- "Places Fresh or Ended are free, all others are live"
 abbrev pub freeOf : Call → Bool
 freeOf c = not (liveOf (c .phase))
+
+-- what is sought: a free place, or a live record of the reference n
+abbrev pub meetsOf : Call → Sought → Bool
+meetsOf c Sought.Free = freeOf c
+meetsOf c (Sought.Live n) = liveAs c n
 
 abbrev pub isAt : Found → Bool
 isAt (Found.At i) = true

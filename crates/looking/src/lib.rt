@@ -1,19 +1,22 @@
 // One record of a table, looked at by value.
 ghost use mathlib.Core.Path.{_≡_};
-ghost use Rattle.looking.specs.Look.{liveAs, freeOf, isAt, faultOf, laterOf};
+ghost use Rattle.looking.specs.Look.{meetsOf, isAt, faultOf, laterOf};
 use call::Call;
 use choosing::choice::Found;
 
-pub fn is_live_as(c: Call, reference: u16) -> bool
-    ensures { λ r. ⌜ r ≡ liveAs c reference ⌝ }
-{
-    c.live() & (c.reference == reference)
+// What a table is looked through for: a free place, or the live record of a reference.
+pub enum Sought {
+    Free,
+    Live(u16),
 }
 
-pub fn is_free(c: Call) -> bool
-    ensures { λ r. ⌜ r ≡ freeOf c ⌝ }
+pub fn meets(c: Call, sought: Sought) -> bool
+    ensures { λ r. ⌜ r ≡ meetsOf c sought ⌝ }
 {
-    !c.live()
+    match sought {
+        Sought::Free => !c.live(),
+        Sought::Live(reference) => c.live() & (c.reference == reference),
+    }
 }
 
 fn is_at(f: Found) -> bool

@@ -1,5 +1,6 @@
 -- The end of a walk by hand, in one step each.
 --     forgets          the cells at these positions are room, whatever they hold
+--     dying            that the locals of a function die, in the order of the locals
 --     frees-all        the locals of a function are freed: the context has the room of each, with that it dies, in the order of the locals
 -- It says nothing of the crate, and can be copied as it stands. Assumes `Given`.
 use Prim.Native.Nat.{ℕ}
@@ -35,6 +36,11 @@ module _ {M : Type 1} {𝓤 : URA M} (H : Heap 𝓤) (A : Atoms 𝓤) where
   abbrev pub homes : Env 𝓤 H → List (Item 𝓤) → List (Item 𝓤)
   homes [] Γ = Γ
   homes ((τ, b) ∷ E) Γ = ‵ (froom τ b 0) ∷ ‵ (fdies τ b) ∷ homes E Γ
+
+  -- that each of them dies
+  abbrev pub dying : Env 𝓤 H → List (Item 𝓤)
+  dying [] = []
+  dying ((τ, b) ∷ E) = ‵ (fdies τ b) ∷ dying E
 
 module _ {M : Type 1} (𝓤 : URA M) (H : Heap 𝓤) (A : Atoms 𝓤) (W : Given 𝓤 H A) where
   empties : {i : Item 𝓤} (f : Full 𝓤 i) → ent 𝓤 (mean 𝓤 H A i) (mean 𝓤 H A (emptied f))

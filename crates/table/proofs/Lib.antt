@@ -1,5 +1,9 @@
 pub mod Rows
 pub mod Arms
 pub mod Ends
+pub mod Dropped
+pub mod Lent
+pub mod Asked
 pub mod Along
+pub mod Live
 pub mod Searched

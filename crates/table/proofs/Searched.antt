@@ -9,9 +9,12 @@ use lib.ListN.{length, getD, drop, drop-of-length-le}
 use Rattle.call.specs.declared.Call.{Call}
 use Rattle.call.specs.Sound.{freshCall, soundOf}
 use Rattle.phases.specs.Phase.{liveOf}
+use Rattle.looking.specs.declared.Sought.{Sought}
 use Rattle.looking.specs.Look.{liveAs, isAt, laterOf, faultOf}
+use Rattle.table.specs.First.{firstFrom}
 use Rattle.table.specs.Table.{findFrom, heldIn, callsSound}
 use Rattle.choosing.specs.declared.choice.Found.{Found}
+use Rattle.table.proofs.Live.{finds-live}
 use Rattle.table.proofs.Along.{one-more, dropped}
 
 -- a record is found exactly if there is one
@@ -37,14 +40,14 @@ twice-not true = refl
 twice-not false = refl
 
 fault-cases : (l : List Call) (i n : ℕ) (live sound : Bool) →
-    cond sound (isAt (findFrom (drop (cond live (i + 1) (length l)) l) (cond live (i + 1) (length l)) n)) true ≡ not (sound && not (live && heldIn (drop (i + 1) l) n))
-fault-cases l i n true true = at-held (drop (i + 1) l) (i + 1) n ∙ twice-not (heldIn (drop (i + 1) l) n)
+    cond sound (isAt (firstFrom (drop (cond live (i + 1) (length l)) l) (cond live (i + 1) (length l)) (Sought.Live n))) true ≡ not (sound && not (live && heldIn (drop (i + 1) l) n))
+fault-cases l i n true true = ap isAt (finds-live (drop (i + 1) l) (i + 1) n) ∙ at-held (drop (i + 1) l) (i + 1) n ∙ twice-not (heldIn (drop (i + 1) l) n)
 fault-cases l i n true false = refl
-fault-cases l i n false true = ap (λ (cs : List Call). isAt (findFrom cs (length l) n)) (drop-of-length-le l (le-refl (length l)))
+fault-cases l i n false true = ap (λ (cs : List Call). isAt (firstFrom cs (length l) (Sought.Live n))) (drop-of-length-le l (le-refl (length l)))
 fault-cases l i n false false = refl
 
 pub fault-says : (l : List Call) (c : Call) (i : ℕ) →
-    faultOf c (findFrom (drop (laterOf c (i + 1) (length l)) l) (laterOf c (i + 1) (length l)) (c .reference)) ≡ not (soundOf c && not (liveOf (c .phase) && heldIn (drop (i + 1) l) (c .reference)))
+    faultOf c (firstFrom (drop (laterOf c (i + 1) (length l)) l) (laterOf c (i + 1) (length l)) (Sought.Live (c .reference))) ≡ not (soundOf c && not (liveOf (c .phase) && heldIn (drop (i + 1) l) (c .reference)))
 unfolding laterOf faultOf
 fault-says l c i = fault-cases l i (c .reference) (liveOf (c .phase)) (soundOf c)
 

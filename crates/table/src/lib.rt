@@ -2,13 +2,14 @@
 ghost use mathlib.Core.Path.{_≡_};
 ghost use lib.ListN.{getD, drop};
 ghost use Rattle.call.specs.Sound.{freshCall};
+ghost use Rattle.table.specs.First.{firstFrom};
 ghost use Rattle.table.specs.Table.{findFrom, placeFrom, callsSound, tableSound};
 use call::Call;
 use choosing::choice::Found;
+use looking::Sought;
 use looking::at_fault;
-use looking::is_free;
-use looking::is_live_as;
 use looking::later;
+use looking::meets;
 
 // Records that a table has at most.
 pub const GREATEST_TABLE: usize = 32;
@@ -25,13 +26,14 @@ pub fn call_at(t: &[Call], i: usize) -> Call
     }
 }
 
-fn find_from(t: &[Call], start: usize, reference: u16) -> Found
-    ensures { λ r. ⌜ r ≡ findFrom (drop start (now (t .entry))) start reference ⌝ }
+// The first record from a place on that meets what is sought.
+fn first_from(t: &[Call], start: usize, sought: Sought) -> Found
+    ensures { λ r. ⌜ r ≡ firstFrom (drop start (now (t .entry))) start sought ⌝ }
 {
     let mut i: usize = start;
     while i < t.len() {
         let c = call_at(t, i);
-        if is_live_as(c, reference) {
+        if meets(c, sought) {
             return Found::At(i);
         }
         i += 1;
@@ -43,7 +45,7 @@ fn find_from(t: &[Call], start: usize, reference: u16) -> Found
 pub fn find(t: &[Call], reference: u16) -> Found
     ensures { λ r. ⌜ r ≡ findFrom (now (t .entry)) 0 reference ⌝ }
 {
-    let f = find_from(t, 0, reference);
+    let f = first_from(t, 0, Sought::Live(reference));
     f
 }
 
@@ -51,15 +53,8 @@ pub fn find(t: &[Call], reference: u16) -> Found
 pub fn place(t: &[Call]) -> Found
     ensures { λ r. ⌜ r ≡ placeFrom (now (t .entry)) 0 ⌝ }
 {
-    let mut i: usize = 0;
-    while i < t.len() {
-        let c = call_at(t, i);
-        if is_free(c) {
-            return Found::At(i);
-        }
-        i += 1;
-    }
-    Found::Nothing
+    let f = first_from(t, 0, Sought::Free);
+    f
 }
 
 fn calls_sound(t: &[Call]) -> bool
@@ -70,7 +65,7 @@ fn calls_sound(t: &[Call]) -> bool
         let c = call_at(t, i);
         let next = i + 1;
         let start = later(c, next, t.len());
-        let f = find_from(t, start, c.reference);
+        let f = first_from(t, start, Sought::Live(c.reference));
         if at_fault(c, f) {
             return false;
         }

@@ -1,5 +1,5 @@
 -- `table::calls_sound` meets its contract: a walk of its MIR, by hand. The loop's index has what is known where the loop's test is reached: that the table is sound exactly if it is from there on.
--- A turn calls `call_at`, then `find_from` for a later record of the same reference, and `at_fault` on the two, and returns, or goes on at the next index. The slice itself is never looked into here.
+-- A turn calls `call_at`, then `first_from` for a later record of the same reference, and `at_fault` on the two, and returns, or goes on at the next index. The slice itself is never looked into here.
 -- Assumes nothing.
 use mathlib.Core.Path.{_≡_, refl, sym, _∙_, ap, subst}
 use Prim.Native.Nat.{ℕ, _+_, _-_, _<_, _^_}
@@ -24,7 +24,7 @@ use contract.Monad.{Fun, factI}
 use contract.Running.{givenOf, tables, tablesOf}
 use types.Kit.{Given, Item, Sq, runs, anyQ, atRet, ‵, raw, _⊛_, ⋆, _$_, _∵_, !, qed, by, move, keep, use1, use2, split, join, rewrite, fsplit, fjoin, done}
 use types.Run.{look, store, init, stop, fld, from, load, lit, true-lit, false-lit, of-opd, bin, and-then, no-more, assigns, assigns-last, land, first, blocks, branches, stays, leaves-loop, exec, returns, returns-within, Below, again, loops, enter, alloc1, alloc0, params1, pass1, pass0}
-use types.Part.{whole, sub, look-in}
+use types.Part.{agg, whole, sub, look-in}
 use sound.WpLaws.{fmOf, WpFn-mono}
 use borrow.Author.Tests.{ltb-true, ltb-false}
 use denote.RattleType.{owns}
@@ -50,16 +50,21 @@ use Rattle.call.specs.Sound.{freshCall, soundOf}
 use Rattle.phases.specs.Phase.{liveOf}
 use Rattle.call.proofs.Call as T
 use Rattle.call.proofs.Call.Laws as T′
+use Rattle.looking.specs.declared.Sought.{Sought}
 use Rattle.looking.specs.Look.{laterOf, faultOf}
-use Rattle.table.specs.Table.{findFrom, heldIn, callsSound}
+use Rattle.table.specs.First.{firstFrom}
+use Rattle.table.specs.Table.{heldIn, callsSound}
 use Rattle.choosing.specs.declared.choice.Found.{Found}
 use Rattle.table.proofs.Arms.{skips-to}
-use Rattle.table.proofs.Ends.{full, forgets, frees-all}
-use Rattle.meter.proofs.Plainly.{pre-plain, calls-told, calls-plain, leaves}
+use Rattle.table.proofs.Ends.{full, dying, forgets, frees-all}
+use Rattle.meter.proofs.Plainly.{pre-plain, calls-plain, leaves}
+use Rattle.table.proofs.Lent.{slice, shown}
+use Rattle.table.proofs.Asked.{val, uval, sval, AtPlace, FirstFrom, calls-place, calls-first}
 use Rattle.table.proofs.Searched.{alone-at, sounds, fault-says, stops, goes-on}
 use Rattle.choosing.proofs.choice.Found as U
 use Rattle.choosing.proofs.choice.Found.Laws as U′
-use Rattle.table.proofs.call_at as g
+use Rattle.looking.proofs.Sought as S
+use Rattle.looking.proofs.Sought.Laws as S′
 use Rattle.table.proofs.call_at.Symbol as g-def
 use Rattle.table.proofs.call_at.Symbol.{name as #g}
 use Rattle.table.proofs.call_at.Met as g-thm
@@ -67,10 +72,9 @@ use Rattle.looking.proofs.later as m
 use Rattle.looking.proofs.later.Symbol as m-def
 use Rattle.looking.proofs.later.Symbol.{name as #m}
 use Rattle.looking.proofs.later.Met as m-thm
-use Rattle.table.proofs.find_from as s
-use Rattle.table.proofs.find_from.Symbol as s-def
-use Rattle.table.proofs.find_from.Symbol.{name as #s}
-use Rattle.table.proofs.find_from.Met as s-thm
+use Rattle.table.proofs.first_from.Symbol as s-def
+use Rattle.table.proofs.first_from.Symbol.{name as #s}
+use Rattle.table.proofs.first_from.Met as s-thm
 use Rattle.looking.proofs.at_fault as p
 use Rattle.looking.proofs.at_fault.Symbol as p-def
 use Rattle.looking.proofs.at_fault.Symbol.{name as #p}
@@ -84,21 +88,9 @@ use Rattle.table.proofs.calls_sound.Code.Mir as body
 abbrev stayed : Stays (f.ended .signature .params) (f.ended .kept)
 stayed = (stay-dropped (shrSliceOf (0 ∷ []) tt (plain (λ _. T.the-row))) yes, tt)
 
-abbrev val : Call → Val
-val = LL.val T.the-type T′.the-laws
-
-abbrev uval : Found → Val
-uval = LE.val U.the-type U′.the-laws
-
 -- the contracts that the proof cites
-abbrev G : {M : Type 1} (𝓤 : URA M) (H : Heap 𝓤) (A : Atoms 𝓤) (mem : Memory → SProp 𝓤) (run : Routine → Fun 𝓤) → Contract 𝓤
-G 𝓤 H A mem run = tripleOf 𝓤 H A g.signature (g.spec 𝓤 H A mem run)
-
 abbrev L : {M : Type 1} (𝓤 : URA M) (H : Heap 𝓤) (A : Atoms 𝓤) (mem : Memory → SProp 𝓤) (run : Routine → Fun 𝓤) → Contract 𝓤
 L 𝓤 H A mem run = tripleOf 𝓤 H A m.signature (m.spec 𝓤 H A mem run)
-
-abbrev S : {M : Type 1} (𝓤 : URA M) (H : Heap 𝓤) (A : Atoms 𝓤) (mem : Memory → SProp 𝓤) (run : Routine → Fun 𝓤) → Contract 𝓤
-S 𝓤 H A mem run = tripleOf 𝓤 H A s.signature (s.spec 𝓤 H A mem run)
 
 abbrev P : {M : Type 1} (𝓤 : URA M) (H : Heap 𝓤) (A : Atoms 𝓤) (mem : Memory → SProp 𝓤) (run : Routine → Fun 𝓤) → Contract 𝓤
 P 𝓤 H A mem run = tripleOf 𝓤 H A p.signature (p.spec 𝓤 H A mem run)
@@ -107,21 +99,18 @@ P 𝓤 H A mem run = tripleOf 𝓤 H A p.signature (p.spec 𝓤 H A mem run)
 abbrev steps : Body
 steps = assign (place 2 []) (rvOpd (copy (place 4 [])))
 
-abbrev slice : Ty
-slice = sliceTy (tyRef (named 0) imm (pointee (T.the-row .written)))
+module _ {M : Type 1} (𝓤 : URA M) (H : Heap 𝓤) (A : Atoms 𝓤) (W : Given 𝓤 H A) (at-mem : Memory → SProp 𝓤) (run : Routine → Fun 𝓤) (κ : Lft) (q : Share) (x : RefT (List Call)) where
+  abbrev ys : List Call
+  ys = x .now
 
-module _ {M : Type 1} (𝓤 : URA M) (H : Heap 𝓤) (A : Atoms 𝓤) (W : Given 𝓤 H A) (at-mem : Memory → SProp 𝓤) (run : Routine → Fun 𝓤) (κ : Lft) (q : Share) (b o : ℕ) (γ : GName) (ys : List Call) where
   abbrev n : ℕ
   n = length ys
-
-  abbrev x : RefT (List Call)
-  x = record { ptr = (b, o); name = γ; now = ys }
 
   abbrev a : RefT (List Call) × Unit {0}
   a = (x, tt)
 
   abbrev vals : List Val × Unit {0}
-  vals = (sliceVal (b, o) n ∷ [], tt)
+  vals = (slice-vals x, tt)
 
   abbrev Post : Val → SProp 𝓤
   Post = walkOf 𝓤 H A f.ended stayed (f.clauses 𝓤 H A at-mem run) .post (((κ, tt), (q, tt), tt, a, vals), tt)
@@ -131,26 +120,11 @@ module _ {M : Type 1} (𝓤 : URA M) (H : Heap 𝓤) (A : Atoms 𝓤) (W : Given
       (bool-makes 𝓤 H A W r _ refl) (factI 𝓤 _ (emp 𝓤) e) _ (id⊢ 𝓤 _)
 
   -- what the callees' triples bind outside
-  abbrev to-g : ℕ → Bound 𝓤 H A g.signature
-  to-g i = ((κ, tt), (q, tt), tt, (x, (i, tt)), (sliceVal (b, o) n ∷ [], (vint w64 i ∷ [], tt)))
-
-  goes-g : (i : ℕ) → i < 2 ^ 64 → ent 𝓤 (sep 𝓤 (sem 𝓤 H A (ShrSlice (named 0) κ T.the-row .own x (sliceVal (b, o) n ∷ []))) (sep 𝓤 (A .lft κ q) (emp 𝓤))) (G 𝓤 H A at-mem run .pre (to-g i, tt))
-  goes-g i gi = qed W (‵ (ShrSlice (named 0) κ T.the-row .own x (sliceVal (b, o) n ∷ [])) ∷ (‵ (flft κ q) ⊛ ‵ ftrue) ∷ []) ∵
-      nothing ! $ owned ! usize (Is usize) (uint-makes 𝓤 H A W w64) i _ (refl, gi) $ fjoin ! $ move ! (1 ∷ 0 ∷ []) $ fjoin ! $ move ! (1 ∷ 0 ∷ []) $ join ! $ nothing ! $ move ! (1 ∷ 0 ∷ []) $ done !
-
   abbrev to-m : Call → ℕ → Bound 𝓤 H A m.signature
   to-m c j = (tt, tt, tt, (c, (j, (n, tt))), (val c ∷ [], (vint w64 j ∷ [], (vint w64 n ∷ [], tt))))
 
   goes-m : (c : Call) (j : ℕ) → Is T.the-row c (val c ∷ []) → j < 2 ^ 64 → n < 2 ^ 64 → ent 𝓤 (emp 𝓤) (L 𝓤 H A at-mem run .pre (to-m c j, tt))
   goes-m c j is gj gn = pre-plain 𝓤 H A m.ended (m.clauses 𝓤 H A at-mem run) (to-m c j) tt (id⊢ 𝓤 (emp 𝓤)) (LL.makes T.the-type T′.the-plain 𝓤 H A, (uint-makes 𝓤 H A W w64, (uint-makes 𝓤 H A W w64, tt))) (is, ((refl, gj), ((refl, gn), tt))) (id⊢ 𝓤 (emp 𝓤))
-
-  abbrev to-s : ℕ → ℕ → Bound 𝓤 H A s.signature
-  to-s j k = ((κ, tt), (q, tt), tt, (x, (j, (k, tt))), (sliceVal (b, o) n ∷ [], (vint w64 j ∷ [], (vint w16 k ∷ [], tt))))
-
-  goes-s : (j k : ℕ) → j < 2 ^ 64 → k < 2 ^ 16 → ent 𝓤 (sep 𝓤 (sem 𝓤 H A (ShrSlice (named 0) κ T.the-row .own x (sliceVal (b, o) n ∷ []))) (sep 𝓤 (A .lft κ q) (emp 𝓤))) (S 𝓤 H A at-mem run .pre (to-s j k, tt))
-  goes-s j k gj gk = qed W (‵ (ShrSlice (named 0) κ T.the-row .own x (sliceVal (b, o) n ∷ [])) ∷ (‵ (flft κ q) ⊛ ‵ ftrue) ∷ []) ∵
-      nothing ! $ owned ! u16 (Is u16) (uint-makes 𝓤 H A W w16) k _ (refl, gk) $ fjoin ! $ owned ! usize (Is usize) (uint-makes 𝓤 H A W w64) j _ (refl, gj) $ fjoin ! $ move ! (1 ∷ 0 ∷ []) $ fjoin ! $
-      move ! (1 ∷ 0 ∷ []) $ join ! $ nothing ! $ move ! (1 ∷ 0 ∷ []) $ done !
 
   abbrev to-p : Call → Found → Bound 𝓤 H A p.signature
   to-p c r = (tt, tt, tt, (c, (r, tt)), (val c ∷ [], (uval r ∷ [], tt)))
@@ -168,20 +142,20 @@ module _ {M : Type 1} (𝓤 : URA M) (H : Heap 𝓤) (A : Atoms 𝓤) (W : Given
   abbrev ≺ : Here → Here → Type 0
   ≺ h h′ = left h < left h′
 
-  module _ (𝓣 : Tables 𝓤 H) (known-g : Triple 𝓤 (𝓣 .C #g) (G 𝓤 H A at-mem run)) (known-m : Triple 𝓤 (𝓣 .C #m) (L 𝓤 H A at-mem run)) (known-s : Triple 𝓤 (𝓣 .C #s) (S 𝓤 H A at-mem run)) (known-p : Triple 𝓤 (𝓣 .C #p) (P 𝓤 H A at-mem run)) (room : Room T.the-row n) where
+  module _ (𝓣 : Tables 𝓤 H) (known-g : Triple 𝓤 (𝓣 .C #g) (AtPlace 𝓤 H A at-mem run)) (known-m : Triple 𝓤 (𝓣 .C #m) (L 𝓤 H A at-mem run)) (known-s : Triple 𝓤 (𝓣 .C #s) (FirstFrom 𝓤 H A at-mem run)) (known-p : Triple 𝓤 (𝓣 .C #p) (P 𝓤 H A at-mem run)) (room : Room T.the-row n) where
     abbrev C : Calls 𝓤 H
     C = 𝓣 .C
 
     abbrev Λ : Loops 𝓤 H
     Λ = 𝓣 .Λ
 
-    module _ (l₀ l₁ l₂ l₃ l₄ l₅ l₆ l₇ l₈ l₉ : ℕ) where
+    module _ (l₀ l₁ l₂ l₃ l₄ l₅ l₆ l₇ l₈ l₉ l₁₀ : ℕ) where
       abbrev E : Env 𝓤 H
-      E = (tyBool, l₀) ∷ (slice, l₁) ∷ (tyInt w64, l₂) ∷ (T′.mir, l₃) ∷ (tyInt w64, l₄) ∷ (tyInt w64, l₅) ∷ (U′.mir, l₆) ∷ (tyInt w64, l₇) ∷ (tyBool, l₈) ∷ (tyBool, l₉) ∷ []
+      E = (tyBool, l₀) ∷ (slice, l₁) ∷ (tyInt w64, l₂) ∷ (T′.mir, l₃) ∷ (tyInt w64, l₄) ∷ (tyInt w64, l₅) ∷ (U′.mir, l₆) ∷ (tyInt w64, l₇) ∷ (tyBool, l₈) ∷ (S′.mir, l₉) ∷ (tyBool, l₁₀) ∷ []
 
-      -- the locals; the token; what t owns; and that each local dies
+      -- what t owns; the token; the locals; and that each local dies
       abbrev I : Here → List (Item 𝓤)
-      I h = ‵ (fat fullShare (tyInt w64) l₂ 0 (vint w64 (h .0))) ∷ ‵ (froom T′.mir l₃ 0) ∷ ‵ (froom (tyInt w64) l₄ 0) ∷ ‵ (froom (tyInt w64) l₅ 0) ∷ ‵ (froom U′.mir l₆ 0) ∷ ‵ (froom (tyInt w64) l₇ 0) ∷ ‵ (froom tyBool l₈ 0) ∷ ‵ (froom tyBool l₉ 0) ∷ ‵ (fat fullShare slice l₁ 0 (sliceVal (b, o) n)) ∷ ‵ (froom tyBool l₀ 0) ∷ (‵ (flft κ q) ⊛ ‵ ftrue) ∷ ‵ (ShrSlice (named 0) κ T.the-row .own x (sliceVal (b, o) n ∷ [])) ∷ ‵ (fdies tyBool l₀) ∷ ‵ (fdies slice l₁) ∷ ‵ (fdies (tyInt w64) l₂) ∷ ‵ (fdies T′.mir l₃) ∷ ‵ (fdies (tyInt w64) l₄) ∷ ‵ (fdies (tyInt w64) l₅) ∷ ‵ (fdies U′.mir l₆) ∷ ‵ (fdies (tyInt w64) l₇) ∷ ‵ (fdies tyBool l₈) ∷ ‵ (fdies tyBool l₉) ∷ []
+      I h = ‵ (shown κ x) ∷ (‵ (flft κ q) ⊛ ‵ ftrue) ∷ ‵ (fat fullShare (tyInt w64) l₂ 0 (vint w64 (h .0))) ∷ ‵ (froom T′.mir l₃ 0) ∷ ‵ (froom (tyInt w64) l₄ 0) ∷ ‵ (froom (tyInt w64) l₅ 0) ∷ ‵ (froom U′.mir l₆ 0) ∷ ‵ (froom (tyInt w64) l₇ 0) ∷ ‵ (froom tyBool l₈ 0) ∷ ‵ (froom S′.mir l₉ 0) ∷ ‵ (froom tyBool l₁₀ 0) ∷ ‵ (fat fullShare slice l₁ 0 (sliceVal (x .ptr) n)) ∷ ‵ (froom tyBool l₀ 0) ∷ dying H A E
 
       -- when the loop is left, the rest of the body runs
       abbrev Left : Out → SProp 𝓤
@@ -194,40 +168,35 @@ module _ {M : Type 1} (𝓤 : URA M) (H : Heap 𝓤) (A : Atoms 𝓤) (W : Given
       more : (h : Here) → ltb (h .0) n ≡ true → Sq W (I h) (runs C Λ E body.turn-1 (Turn h))
       unfolding afterTurn
       more h e =
-          assigns ! (of-opd ! (load ! (from ! (fld ! refl (stop !))) (look-in ! 8 (sub ! 1 refl (whole !))))) (from ! (stop !)) (init ! 5 refl (tt, record { fits = room .0 })) $
-          assigns ! (bin ! (load ! (from ! (stop !)) (look ! 0 refl)) (load ! (from ! (stop !)) (look ! 5 refl)) tt) (from ! (stop !)) (init ! 6 refl (tt, tt)) $
-          rewrite ! 6 (λ (t : Bool). ‵ (fat fullShare tyBool l₈ 0 (vbool t))) e refl $ stays ! (load ! (from ! (stop !)) (look ! 6 refl)) $
-          -- what the slice reference owns goes to `call_at`, and a copy of it stays
-          move ! (11 ∷ []) $ use1 W (‵ (ShrSlice (named 0) κ T.the-row .own x (sliceVal (b, o) n ∷ [])) ⊛ ‵ (ShrSlice (named 0) κ T.the-row .own x (sliceVal (b, o) n ∷ []))) (shr-slice-copy 𝓤 H A W (named 0) κ T.the-row .twice x _) $ split ! $
-          move ! (0 ∷ 12 ∷ []) $ use2 W (raw (G 𝓤 H A at-mem run .pre (to-g (h .0), tt))) (goes-g (h .0) i-fits) $
-          calls-told ! (fmOf 𝓤 H (W .laws) 𝓣) g.ended (g.clauses 𝓤 H A at-mem run) known-g (to-g (h .0)) tt (λ r. r ≡ getD ys (h .0) freshCall) (λ r ws. id⊢ 𝓤 _) val (LL.tells T.the-type T′.the-laws)
-          (and-then ! (load ! (from ! (stop !)) (look ! 10 refl)) (and-then ! (load ! (from ! (stop !)) (look ! 2 refl)) (no-more !))) (λ c ec isc.
-          use1 W (‵ (flft κ q) ⊛ ‵ ftrue) (id⊢ 𝓤 _) $ land ! (from ! (stop !)) (init ! 3 refl (LL.lawful T.the-type T′.the-laws 𝓤 H A W .typed c _ isc .0)) $
+          assigns ! (of-opd ! (load ! (from ! (fld ! refl (stop !))) (look-in ! 11 (sub ! 1 refl (whole !))))) (from ! (stop !)) (init ! 7 refl (tt, record { fits = room .0 })) $
+          assigns ! (bin ! (load ! (from ! (stop !)) (look ! 2 refl)) (load ! (from ! (stop !)) (look ! 7 refl)) tt) (from ! (stop !)) (init ! 8 refl (tt, tt)) $
+          rewrite ! 8 (λ (t : Bool). ‵ (fat fullShare tyBool l₈ 0 (vbool t))) e refl $ stays ! (load ! (from ! (stop !)) (look ! 8 refl)) $
+          calls-place ! (fmOf 𝓤 H (W .laws) 𝓣) at-mem run known-g κ q x (h .0) i-fits (and-then ! (load ! (from ! (stop !)) (look ! 11 refl)) (and-then ! (load ! (from ! (stop !)) (look ! 2 refl)) (no-more !))) (λ c ec isc.
+          land ! (from ! (stop !)) (init ! 3 refl (LL.lawful T.the-type T′.the-laws 𝓤 H A W .typed c _ isc .0)) $
           assigns ! (bin ! (load ! (from ! (stop !)) (look ! 2 refl)) (lit ! tt) (record { fits = next-fits })) (from ! (stop !)) (init ! 4 refl (tt, record { fits = next-fits })) $
-          assigns ! (of-opd ! (load ! (from ! (fld ! refl (stop !))) (look-in ! 10 (sub ! 1 refl (whole !))))) (from ! (stop !)) (store ! 7 refl (tt, record { fits = room .0 })) $
+          assigns ! (of-opd ! (load ! (from ! (fld ! refl (stop !))) (look-in ! 11 (sub ! 1 refl (whole !))))) (from ! (stop !)) (store ! 7 refl (tt, record { fits = room .0 })) $
           calls-plain ! (fmOf 𝓤 H (W .laws) 𝓣) m.ended (m.clauses 𝓤 H A at-mem run) known-m (to-m c (h .0 + 1)) tt (goes-m c (h .0 + 1) isc next-fits (room .0)) (λ j. j ≡ laterOf c (h .0 + 1) n) (λ j ws. id⊢ 𝓤 _) (vint w64) (uint-tells w64)
           (and-then ! (load ! (from ! (stop !)) (look ! 4 refl)) (and-then ! (load ! (from ! (stop !)) (look ! 5 refl)) (and-then ! (load ! (from ! (stop !)) (look ! 8 refl)) (no-more !)))) (λ j ej isj.
           land ! (from ! (stop !)) (init ! 5 refl (tt, record { fits = isj .1 })) $
-          move ! (1 ∷ []) $ use1 W (‵ (ShrSlice (named 0) κ T.the-row .own x (sliceVal (b, o) n ∷ [])) ⊛ ‵ (ShrSlice (named 0) κ T.the-row .own x (sliceVal (b, o) n ∷ []))) (shr-slice-copy 𝓤 H A W (named 0) κ T.the-row .twice x _) $ split ! $
-          move ! (0 ∷ 2 ∷ []) $ use2 W (raw (S 𝓤 H A at-mem run .pre (to-s j (c .reference), tt))) (goes-s j (c .reference) (isj .1) (LL.owed T.the-type T′.the-laws c _ isc .0 .1)) $
-          calls-told ! (fmOf 𝓤 H (W .laws) 𝓣) s.ended (s.clauses 𝓤 H A at-mem run) known-s (to-s j (c .reference)) tt (λ r. r ≡ findFrom (dropL j ys) j (c .reference)) (λ r ws. id⊢ 𝓤 _) uval (LE.tells U.the-type U′.the-laws)
-          (and-then ! (load ! (from ! (stop !)) (look ! 10 refl)) (and-then ! (load ! (from ! (stop !)) (look ! 5 refl)) (and-then ! (load ! (from ! (fld ! refl (stop !))) (look-in ! 3 (sub ! 0 refl (whole !)))) (no-more !)))) (λ r er isr.
-          use1 W (‵ (flft κ q) ⊛ ‵ ftrue) (id⊢ 𝓤 _) $ land ! (from ! (stop !)) (init ! 6 refl (LE.lawful U.the-type U′.the-laws 𝓤 H A W tt .typed r _ isr .0)) $
+          assigns ! (agg ! (and-then ! (lit ! tt) (and-then ! (load ! (from ! (fld ! refl (stop !))) (look-in ! 3 (sub ! 0 refl (whole !)))) (no-more !)))) (from ! (stop !)) (init ! 9 refl (LE.lawful S.the-type S′.the-laws 𝓤 H A W tt .typed (Sought.Live (c .reference)) _ (asked c isc) .0)) $
+          calls-first ! (fmOf 𝓤 H (W .laws) 𝓣) at-mem run known-s κ q x j (Sought.Live (c .reference)) (isj .1) (asked c isc)
+          (and-then ! (load ! (from ! (stop !)) (look ! 11 refl)) (and-then ! (load ! (from ! (stop !)) (look ! 5 refl)) (and-then ! (load ! (from ! (stop !)) (look ! 9 refl)) (no-more !)))) (λ r er isr.
+          land ! (from ! (stop !)) (init ! 6 refl (LE.lawful U.the-type U′.the-laws 𝓤 H A W tt .typed r _ isr .0)) $
           calls-plain ! (fmOf 𝓤 H (W .laws) 𝓣) p.ended (p.clauses 𝓤 H A at-mem run) known-p (to-p c r) tt (goes-p c r isc isr) (λ t. t ≡ faultOf c r) (λ t ws. id⊢ 𝓤 _) vbool bool-tells
           (and-then ! (load ! (from ! (stop !)) (look ! 4 refl)) (and-then ! (load ! (from ! (stop !)) (look ! 7 refl)) (no-more !))) (λ t et ist.
-          land ! (from ! (stop !)) (init ! 9 refl (tt, tt)) $
-          first ! $ branches ! (load ! (from ! (stop !)) (look ! 9 refl))
+          land ! (from ! (stop !)) (init ! 10 refl (tt, tt)) $
+          first ! $ branches ! (load ! (from ! (stop !)) (look ! 10 refl))
           -- it is at fault
           (λ yes′.
-          assigns ! (of-opd ! (false-lit !)) (from ! (stop !)) (init ! 11 refl (tt, tt)) $
-          returns-within ! Post refl (look ! 11 refl) $ forgets ! (2 ∷ 3 ∷ 4 ∷ 5 ∷ 6 ∷ 7 ∷ 8 ∷ 9 ∷ 10 ∷ 11 ∷ []) (full, (full, (full, (full, (full, (full, (full, (full, (full, (full, tt)))))))))) $
-          move ! (11 ∷ 12 ∷ 10 ∷ 13 ∷ 2 ∷ 14 ∷ 3 ∷ 15 ∷ 4 ∷ 16 ∷ 5 ∷ 17 ∷ 6 ∷ 18 ∷ 7 ∷ 19 ∷ 8 ∷ 20 ∷ 9 ∷ 21 ∷ []) $ frees-all ! $
-          keep ! (0 ∷ []) $ nothing ! $ nothing ! $ fjoin ! $ move ! (1 ∷ 0 ∷ []) $
+          assigns ! (of-opd ! (false-lit !)) (from ! (stop !)) (init ! 12 refl (tt, tt)) $
+          returns-within ! Post refl (look ! 12 refl) $ forgets ! (2 ∷ 3 ∷ 4 ∷ 5 ∷ 6 ∷ 7 ∷ 8 ∷ 9 ∷ 10 ∷ 11 ∷ 12 ∷ []) (full, (full, (full, (full, (full, (full, (full, (full, (full, (full, (full, tt))))))))))) $
+          move ! (12 ∷ 13 ∷ 11 ∷ 14 ∷ 2 ∷ 15 ∷ 3 ∷ 16 ∷ 4 ∷ 17 ∷ 5 ∷ 18 ∷ 6 ∷ 19 ∷ 7 ∷ 20 ∷ 8 ∷ 21 ∷ 9 ∷ 22 ∷ 10 ∷ 23 ∷ []) $ frees-all ! $
+          keep ! (1 ∷ []) $ nothing ! $ nothing ! $ fjoin ! $ move ! (1 ∷ 0 ∷ []) $
           by ! (exits false (there t c j r ec ej er et yes′)))
           -- it is not: on to the next
           (λ no′. skips-to ! steps (Turn h) $
           assigns-last ! (of-opd ! (load ! (from ! (stop !)) (look ! 4 refl))) (from ! (stop !)) (store ! 2 refl (tt, record { fits = next-fits })) $
-          forgets ! (3 ∷ 4 ∷ 5 ∷ 6 ∷ 7 ∷ 8 ∷ 9 ∷ []) (full, (full, (full, (full, (full, (full, (full, tt))))))) $ keep ! (2 ∷ 3 ∷ 4 ∷ 5 ∷ 6 ∷ 7 ∷ 8 ∷ 9 ∷ 10 ∷ 11 ∷ 0 ∷ 1 ∷ 12 ∷ 13 ∷ 14 ∷ 15 ∷ 16 ∷ 17 ∷ 18 ∷ 19 ∷ 20 ∷ 21 ∷ []) $
+          forgets ! (3 ∷ 4 ∷ 5 ∷ 6 ∷ 7 ∷ 8 ∷ 9 ∷ 10 ∷ []) (full, (full, (full, (full, (full, (full, (full, (full, tt)))))))) $
           again ! ≺ I h (h .0 + 1, onward t c j r ec ej er et no′) (omega (arith, small)))))))
         where
           small : h .0 < n
@@ -239,16 +208,19 @@ module _ {M : Type 1} (𝓤 : URA M) (H : Heap 𝓤) (A : Atoms 𝓤) (W : Given
           next-fits : h .0 + 1 < 2 ^ 64
           next-fits = omega (arith, small, room .0)
 
+          asked : (c : Call) → Is T.the-row c (val c ∷ []) → Is S.the-row (Sought.Live (c .reference)) (sval (Sought.Live (c .reference)) ∷ [])
+          asked c is = LE.owes S.the-type S′.the-laws (Sought.Live (c .reference)) ((refl, LL.owed T.the-type T′.the-laws c _ is .0 .1), tt)
+
           -- what `at_fault` says of the record
-          said : (t : Bool) (c : Call) (j : ℕ) (r : Found) → c ≡ getD ys (h .0) freshCall → j ≡ laterOf c (h .0 + 1) n → r ≡ findFrom (dropL j ys) j (c .reference) → t ≡ faultOf c r → t ≡ not (alone-at ys (h .0))
+          said : (t : Bool) (c : Call) (j : ℕ) (r : Found) → c ≡ getD ys (h .0) freshCall → j ≡ laterOf c (h .0 + 1) n → r ≡ firstFrom (dropL j ys) j (Sought.Live (c .reference)) → t ≡ faultOf c r → t ≡ not (alone-at ys (h .0))
           said t c j r ec ej er et =
-              et ∙ ap (faultOf c) (er ∙ ap (λ (m : ℕ). findFrom (dropL m ys) m (c .reference)) ej) ∙ fault-says ys c (h .0)
+              et ∙ ap (faultOf c) (er ∙ ap (λ (m : ℕ). firstFrom (dropL m ys) m (Sought.Live (c .reference))) ej) ∙ fault-says ys c (h .0)
               ∙ ap (λ (d : Call). not (soundOf d && not (liveOf (d .phase) && heldIn (dropL (h .0 + 1) ys) (d .reference)))) ec
 
-          there : (t : Bool) (c : Call) (j : ℕ) (r : Found) → c ≡ getD ys (h .0) freshCall → j ≡ laterOf c (h .0 + 1) n → r ≡ findFrom (dropL j ys) j (c .reference) → t ≡ faultOf c r → Holds t → false ≡ callsSound ys
+          there : (t : Bool) (c : Call) (j : ℕ) (r : Found) → c ≡ getD ys (h .0) freshCall → j ≡ laterOf c (h .0 + 1) n → r ≡ firstFrom (dropL j ys) j (Sought.Live (c .reference)) → t ≡ faultOf c r → Holds t → false ≡ callsSound ys
           there t c j r ec ej er et yes′ = sym (stops (alone-at ys (h .0)) (callsSound (dropL (h .0 + 1) ys)) (subst Holds (said t c j r ec ej er et) yes′)) ∙ sym (sounds ys (h .0) small) ∙ h .1
 
-          onward : (t : Bool) (c : Call) (j : ℕ) (r : Found) → c ≡ getD ys (h .0) freshCall → j ≡ laterOf c (h .0 + 1) n → r ≡ findFrom (dropL j ys) j (c .reference) → t ≡ faultOf c r → Holds (not t) → callsSound (dropL (h .0 + 1) ys) ≡ callsSound ys
+          onward : (t : Bool) (c : Call) (j : ℕ) (r : Found) → c ≡ getD ys (h .0) freshCall → j ≡ laterOf c (h .0 + 1) n → r ≡ firstFrom (dropL j ys) j (Sought.Live (c .reference)) → t ≡ faultOf c r → Holds (not t) → callsSound (dropL (h .0 + 1) ys) ≡ callsSound ys
           onward t c j r ec ej er et no′ =
               sym (goes-on (alone-at ys (h .0)) (callsSound (dropL (h .0 + 1) ys)) (subst (λ (u : Bool). Holds (not u)) (said t c j r ec ej er et) no′)) ∙ sym (sounds ys (h .0) small) ∙ h .1
 
@@ -256,13 +228,13 @@ module _ {M : Type 1} (𝓤 : URA M) (H : Heap 𝓤) (A : Atoms 𝓤) (W : Given
       ends : (h : Here) → ltb (h .0) n ≡ false → Sq W (I h) (runs C Λ E body.turn-1 (Turn h))
       unfolding afterTurn
       ends h e =
-          assigns ! (of-opd ! (load ! (from ! (fld ! refl (stop !))) (look-in ! 8 (sub ! 1 refl (whole !))))) (from ! (stop !)) (init ! 5 refl (tt, record { fits = room .0 })) $
-          assigns ! (bin ! (load ! (from ! (stop !)) (look ! 0 refl)) (load ! (from ! (stop !)) (look ! 5 refl)) tt) (from ! (stop !)) (init ! 6 refl (tt, tt)) $
-          rewrite ! 6 (λ (t : Bool). ‵ (fat fullShare tyBool l₈ 0 (vbool t))) e refl $ leaves-loop ! (load ! (from ! (stop !)) (look ! 6 refl)) $ exec ! C Λ E body.t-3 (atRet E Post) $
-          assigns ! (of-opd ! (true-lit !)) (from ! (stop !)) (init ! 9 refl (tt, tt)) $
-          returns ! (look ! 9 refl) $ forgets ! (0 ∷ 5 ∷ 6 ∷ 8 ∷ 9 ∷ []) (full, (full, (full, (full, (full, tt))))) $
-          move ! (9 ∷ 12 ∷ 8 ∷ 13 ∷ 0 ∷ 14 ∷ 1 ∷ 15 ∷ 2 ∷ 16 ∷ 3 ∷ 17 ∷ 4 ∷ 18 ∷ 5 ∷ 19 ∷ 6 ∷ 20 ∷ 7 ∷ 21 ∷ []) $ frees-all ! $
-          keep ! (0 ∷ []) $ nothing ! $ nothing ! $ fjoin ! $ move ! (1 ∷ 0 ∷ []) $
+          assigns ! (of-opd ! (load ! (from ! (fld ! refl (stop !))) (look-in ! 11 (sub ! 1 refl (whole !))))) (from ! (stop !)) (init ! 7 refl (tt, record { fits = room .0 })) $
+          assigns ! (bin ! (load ! (from ! (stop !)) (look ! 2 refl)) (load ! (from ! (stop !)) (look ! 7 refl)) tt) (from ! (stop !)) (init ! 8 refl (tt, tt)) $
+          rewrite ! 8 (λ (t : Bool). ‵ (fat fullShare tyBool l₈ 0 (vbool t))) e refl $ leaves-loop ! (load ! (from ! (stop !)) (look ! 8 refl)) $ exec ! C Λ E body.t-3 (atRet E Post) $
+          assigns ! (of-opd ! (true-lit !)) (from ! (stop !)) (init ! 12 refl (tt, tt)) $
+          returns ! (look ! 12 refl) $ forgets ! (2 ∷ 7 ∷ 8 ∷ 11 ∷ 12 ∷ []) (full, (full, (full, (full, (full, tt))))) $
+          move ! (12 ∷ 13 ∷ 11 ∷ 14 ∷ 2 ∷ 15 ∷ 3 ∷ 16 ∷ 4 ∷ 17 ∷ 5 ∷ 18 ∷ 6 ∷ 19 ∷ 7 ∷ 20 ∷ 8 ∷ 21 ∷ 9 ∷ 22 ∷ 10 ∷ 23 ∷ []) $ frees-all ! $
+          keep ! (1 ∷ []) $ nothing ! $ nothing ! $ fjoin ! $ move ! (1 ∷ 0 ∷ []) $
           by ! (exits true (sym (ap callsSound (drop-of-length-le ys (ltb-false (h .0) n e))) ∙ h .1))
 
       turn : (h : Here) (t : Bool) → ltb (h .0) n ≡ t → Sq W (I h) (runs C Λ E body.turn-1 (Turn h))
@@ -273,23 +245,23 @@ module _ {M : Type 1} (𝓤 : URA M) (H : Heap 𝓤) (A : Atoms 𝓤) (W : Given
       looped : Sq W (I (0, refl)) (runs C Λ E body.t-2 (atRet E Post))
       looped = first ! $ blocks ! $ loops ! 𝓣 ≺ (InvImage·wf left (Nat·lt-wfRel .wf)) I (λ h. turn h (ltb (h .0) n) refl) (0, refl)
 
-    walk : ent 𝓤 (onEntry 𝓤 H A f.signature (κ, tt) (q, tt) a vals) (WpFn 𝓤 H C Λ code.function (sliceVal (b, o) n ∷ []) Post)
+    walk : ent 𝓤 (onEntry 𝓤 H A f.signature (κ, tt) (q, tt) a vals) (WpFn 𝓤 H C Λ code.function (sliceVal (x .ptr) n ∷ []) Post)
     walk =
-        qed W ((‵ (flft κ q) ⊛ ‵ ftrue) ∷ ‵ (owns (ShrSlice (named 0) κ T.the-row ∷ []) a vals) ∷ []) ∵ enter ! C Λ code.function (sliceVal (b, o) n ∷ []) _ $
-        alloc1 ! (λ l₀. alloc1 ! (λ l₁. alloc1 ! (λ l₂. alloc1 ! (λ l₃. alloc1 ! (λ l₄. alloc1 ! (λ l₅. alloc1 ! (λ l₆. alloc1 ! (λ l₇. alloc1 ! (λ l₈. alloc1 ! (λ l₉. alloc0 ! $ params1 ! $
-        pass1 ! (init ! 16 refl (tt, (tt, (record { fits = room .0 }, tt)))) $ pass0 ! $
-        assigns ! (of-opd ! (lit ! tt)) (from ! (stop !)) (init ! 14 refl (tt, record { fits = lit< tt })) $
-        move ! (21 ∷ []) $ fsplit ! $
-        keep ! (16 ∷ 14 ∷ 12 ∷ 10 ∷ 8 ∷ 6 ∷ 4 ∷ 2 ∷ 18 ∷ 20 ∷ 22 ∷ 0 ∷ 21 ∷ 19 ∷ 17 ∷ 15 ∷ 13 ∷ 11 ∷ 9 ∷ 7 ∷ 5 ∷ 3 ∷ []) $
-        looped l₀ l₁ l₂ l₃ l₄ l₅ l₆ l₇ l₈ l₉))))))))))
+        qed W ((‵ (flft κ q) ⊛ ‵ ftrue) ∷ ‵ (owns (ShrSlice (named 0) κ T.the-row ∷ []) a vals) ∷ []) ∵ enter ! C Λ code.function (sliceVal (x .ptr) n ∷ []) _ $
+        alloc1 ! (λ l₀. alloc1 ! (λ l₁. alloc1 ! (λ l₂. alloc1 ! (λ l₃. alloc1 ! (λ l₄. alloc1 ! (λ l₅. alloc1 ! (λ l₆. alloc1 ! (λ l₇. alloc1 ! (λ l₈. alloc1 ! (λ l₉. alloc1 ! (λ l₁₀. alloc0 ! $ params1 ! $
+        pass1 ! (init ! 18 refl (tt, (tt, (record { fits = room .0 }, tt)))) $ pass0 ! $
+        assigns ! (of-opd ! (lit ! tt)) (from ! (stop !)) (init ! 16 refl (tt, record { fits = lit< tt })) $
+        move ! (23 ∷ []) $ fsplit ! $
+        keep ! (0 ∷ 24 ∷ 18 ∷ 16 ∷ 14 ∷ 12 ∷ 10 ∷ 8 ∷ 6 ∷ 4 ∷ 2 ∷ 20 ∷ 22 ∷ 23 ∷ 21 ∷ 19 ∷ 17 ∷ 15 ∷ 13 ∷ 11 ∷ 9 ∷ 7 ∷ 5 ∷ 3 ∷ []) $
+        looped l₀ l₁ l₂ l₃ l₄ l₅ l₆ l₇ l₈ l₉ l₁₀)))))))))))
 
-meets : {M : Type 1} (𝓤 : URA M) (H : Heap 𝓤) (A : Atoms 𝓤) → Given 𝓤 H A → (mem : Memory → SProp 𝓤) (run : Routine → Fun 𝓤) (𝓣 : Tables 𝓤 H) → Triple 𝓤 (𝓣 .C #g) (G 𝓤 H A mem run) → Triple 𝓤 (𝓣 .C #m) (L 𝓤 H A mem run) → Triple 𝓤 (𝓣 .C #s) (S 𝓤 H A mem run) → Triple 𝓤 (𝓣 .C #p) (P 𝓤 H A mem run) →
+meets : {M : Type 1} (𝓤 : URA M) (H : Heap 𝓤) (A : Atoms 𝓤) → Given 𝓤 H A → (mem : Memory → SProp 𝓤) (run : Routine → Fun 𝓤) (𝓣 : Tables 𝓤 H) → Triple 𝓤 (𝓣 .C #g) (AtPlace 𝓤 H A mem run) → Triple 𝓤 (𝓣 .C #m) (L 𝓤 H A mem run) → Triple 𝓤 (𝓣 .C #s) (FirstFrom 𝓤 H A mem run) → Triple 𝓤 (𝓣 .C #p) (P 𝓤 H A mem run) →
     Meets 𝓤 H A f.signature (WpFn 𝓤 H (𝓣 .C) (𝓣 .Λ) code.function) (f.spec 𝓤 H A mem run)
 meets 𝓤 H A W mem run 𝓣 known-g known-m known-s known-p =
     walk-meets 𝓤 H A f.ended stayed W (goes-dropped 𝓤 H A W 1 (shrSliceOf (0 ∷ []) tt (plain (λ _. T.the-row))) yes (λ κs x f. refl), tt) (f.clauses 𝓤 H A mem run)
     (WpFn 𝓤 H (𝓣 .C) (𝓣 .Λ) code.function) (WpFn-mono 𝓤 H (W .laws) 𝓣 code.function)
     (walked 𝓤 H A f.ended stayed (f.clauses 𝓤 H A mem run) (WpFn 𝓤 H (𝓣 .C) (𝓣 .Λ) code.function) (λ κs. (slice-vals, tt)) (λ κs. (shr-slice-tells (named 0) (κs .0) T.the-row, tt))
-    (λ κs qs bounds a _ are. via 𝓤 _ (fst∗ 𝓤 _ (emp 𝓤)) (walk 𝓤 H A W mem run (κs .0) (qs .0) (a .0 .ptr .0) (a .0 .ptr .1) (a .0 .name) (a .0 .now) 𝓣 known-g known-m known-s known-p (are .0 .0 .1))))
+    (λ κs qs bounds a _ are. via 𝓤 _ (fst∗ 𝓤 _ (emp 𝓤)) (walk 𝓤 H A W mem run (κs .0) (qs .0) (a .0) 𝓣 known-g known-m known-s known-p (are .0 .0 .1))))
 
 pub calls-sound-spec : {M : Type 1} → stated.statement M
 unfolding code.routine tablesOf
@@ -297,7 +269,7 @@ calls-sound-spec 𝓤 H 𝓜 𝓖 𝓡 =
     entered 𝓤 H (tripleOf 𝓤 H (𝓖 .A) f.signature (f.spec 𝓤 H (𝓖 .A) (𝓜 .mem) (𝓡 .run)))
     (tables 𝓤 H 𝓜 𝓡 code.env .C) (tables 𝓤 H 𝓜 𝓡 code.env .Λ) #f code.function (code.unfolded 𝓤 H 𝓜 𝓡)
     (meets 𝓤 H (𝓖 .A) (givenOf 𝓤 H 𝓜 𝓖) (𝓜 .mem) (𝓡 .run) (tablesOf 𝓤 H 𝓜 (tables 𝓤 H 𝓜 𝓡 code.env))
-    (cited 𝓤 H (G 𝓤 H (𝓖 .A) (𝓜 .mem) (𝓡 .run)) 𝓜 𝓡 code.env #g g-def.routine code.calls-table·call-at (g-thm.met 𝓤 H 𝓜 𝓖 𝓡))
+    (cited 𝓤 H (AtPlace 𝓤 H (𝓖 .A) (𝓜 .mem) (𝓡 .run)) 𝓜 𝓡 code.env #g g-def.routine code.calls-table·call-at (g-thm.met 𝓤 H 𝓜 𝓖 𝓡))
     (cited 𝓤 H (L 𝓤 H (𝓖 .A) (𝓜 .mem) (𝓡 .run)) 𝓜 𝓡 code.env #m m-def.routine code.calls-looking·later (m-thm.met 𝓤 H 𝓜 𝓖 𝓡))
-    (cited 𝓤 H (S 𝓤 H (𝓖 .A) (𝓜 .mem) (𝓡 .run)) 𝓜 𝓡 code.env #s s-def.routine code.calls-table·find-from (s-thm.met 𝓤 H 𝓜 𝓖 𝓡))
+    (cited 𝓤 H (FirstFrom 𝓤 H (𝓖 .A) (𝓜 .mem) (𝓡 .run)) 𝓜 𝓡 code.env #s s-def.routine code.calls-table·first-from (s-thm.met 𝓤 H 𝓜 𝓖 𝓡))
     (cited 𝓤 H (P 𝓤 H (𝓖 .A) (𝓜 .mem) (𝓡 .run)) 𝓜 𝓡 code.env #p p-def.routine code.calls-looking·at-fault (p-thm.met 𝓤 H 𝓜 𝓖 𝓡)))

@@ -1,0 +1,14 @@
+-- What the one loop that looks through a table answers: for a free place, and for the live record of a reference.
+-- It stands between the loop and Table, whose findFrom and placeFrom say each by itself.
+use Prim.Native.Nat.{ℕ, _+_}
+use mathlib.Core.Bool.{cond}
+use mathlib.Core.List.{List, [], _∷_}
+use Rattle.call.specs.declared.Call.{Call}
+use Rattle.choosing.specs.declared.choice.Found.{Found}
+use Rattle.looking.specs.declared.Sought.{Sought}
+use Rattle.looking.specs.Look.{meetsOf}
+
+-- the first record that meets what is sought, where the first record has the place i
+abbrev pub firstFrom : List Call → ℕ → Sought → Found
+firstFrom [] i s = Found.Nothing
+firstFrom (c ∷ cs) i s = cond (meetsOf c s) (Found.At i) (firstFrom cs (i + 1) s)
