@@ -1,5 +1,5 @@
 -- A walk by hand of a function whose parameters are plain data or lent with `&`: at exit nothing is had of them, and nothing is said of them.
---     dropped          that of each parameter nothing is had at exit
+--     Leaving          what such a walk ends in
 --     leaves-dropped   the end of such a walk, from the tokens alone: it asks the result's typing and what the `ensures` says
 --     meets-dropped    such a walk, from what is had on entry, meets the contract
 -- It says nothing of the crate, and can be copied as it stands. Assumes `Given`.
@@ -25,7 +25,7 @@ use denote.Triple.Walked.{Stays, stay-dropped, fitsOf, hasOf, walkOf, Silent, go
 use Rattle.meter.proofs.Plainly.{leaves}
 
 module _ {n : ℕ} where
-  abbrev pub dropped : (ss : List (Slot n)) (ks : Kepts ss) → Stays ss ks
+  abbrev dropped : (ss : List (Slot n)) (ks : Kepts ss) → Stays ss ks
   dropped [] ks = tt
   dropped (s ∷ ss) ks = (stay-dropped s (ks .0), dropped ss (ks .1))
 
@@ -50,9 +50,13 @@ module _ {M : Type 1} (𝓤 : URA M) (H : Heap 𝓤) (A : Atoms 𝓤) (W : Given
   abbrev hs : Stays (T .signature .params) (T .kept)
   hs = dropped (T .signature .params) (T .kept)
 
+  -- what such a walk ends in
+  abbrev pub Leaving : walkOf 𝓤 H A T hs c .Ghost → Val → SProp 𝓤
+  Leaving = walkOf 𝓤 H A T hs c .post
+
   pub leaves-dropped : (y : walkOf 𝓤 H A T hs c .Ghost) (v : Val) (r : Res (T .signature) (y .0 .0)) (ws : Lasts T (y .0 .0) (y .0 .3))
       → ent 𝓤 (emp 𝓤) (sem 𝓤 H A (typeAt (T .signature .result) (y .0 .0) .own r (v ∷ []))) → ent 𝓤 (emp 𝓤) (c (y .0 .0) (y .0 .3) .ensures (y .1) r (atExit T (y .0 .0) (y .0 .3) ws))
-      → ent 𝓤 (alive 𝓤 H A (T .signature) (y .0 .0) (y .0 .1)) (walkOf 𝓤 H A T hs c .post y v)
+      → ent 𝓤 (alive 𝓤 H A (T .signature) (y .0 .0) (y .0 .1)) (Leaving y v)
   leaves-dropped y v r ws own en =
       let P : SProp 𝓤 = alive 𝓤 H A (T .signature) (y .0 .0) (y .0 .1) in
       via 𝓤 (sep 𝓤 P (emp 𝓤)) (via 𝓤 (sep 𝓤 (emp 𝓤) P) (emp∗ 𝓤 P) (comm∗ 𝓤 (emp 𝓤) P))
@@ -63,7 +67,7 @@ module _ {M : Type 1} (𝓤 : URA M) (H : Heap 𝓤) (A : Atoms 𝓤) (W : Given
       → ((κs : Lfts (T .signature .lifetimes)) (qs : Shares (T .signature .lifetimes)) (bounds : AllOutlive (T .signature .lifetimes) (T .signature .outlives) κs) (a : Args (T .signature) κs) (g : c κs a .ghost)
       → Are (typesAt (T .signature .params) κs) (Ises (typesAt (T .signature .params) κs)) a (valss (typesAt (T .signature .params) κs) (sp κs) a)
       → ent 𝓤 (onEntry 𝓤 H A (T .signature) κs qs a (valss (typesAt (T .signature .params) κs) (sp κs) a))
-      (WpFn 𝓤 H (𝓣 .C) (𝓣 .Λ) fn (flat (typesAt (T .signature .params) κs) (valss (typesAt (T .signature .params) κs) (sp κs) a)) (walkOf 𝓤 H A T hs c .post ((κs, qs, bounds, a, valss (typesAt (T .signature .params) κs) (sp κs) a), g))))
+      (WpFn 𝓤 H (𝓣 .C) (𝓣 .Λ) fn (flat (typesAt (T .signature .params) κs) (valss (typesAt (T .signature .params) κs) (sp κs) a)) (Leaving ((κs, qs, bounds, a, valss (typesAt (T .signature .params) κs) (sp κs) a), g))))
       → Meets 𝓤 H A (T .signature) (WpFn 𝓤 H (𝓣 .C) (𝓣 .Λ) fn) (closing 𝓤 H A T c)
   meets-dropped 𝓣 fn silent sp tells walk =
       walk-meets 𝓤 H A T hs W (all-go 𝓤 H A W (T .signature .lifetimes) (T .signature .params) (T .kept) silent) c (WpFn 𝓤 H (𝓣 .C) (𝓣 .Λ) fn) (WpFn-mono 𝓤 H (W .laws) 𝓣 fn)
