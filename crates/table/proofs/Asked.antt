@@ -38,12 +38,9 @@ use Rattle.looking.specs.declared.Sought.{Sought}
 use Rattle.looking.proofs.Sought as S
 use Rattle.looking.proofs.Sought.Laws as S′
 use Rattle.table.specs.First.{firstFrom}
-use Rattle.table.proofs.Lent.{shown, lends, calls-lent}
+use Rattle.table.proofs.Lent.{val, shown, lends, calls-lent}
 use Rattle.table.proofs.call_at as g
 use Rattle.table.proofs.first_from as s
-
-abbrev pub val : Call → Val
-val = LL.val T.the-type T′.the-laws
 
 abbrev pub uval : Found → Val
 uval = LE.val U.the-type U′.the-laws

@@ -40,6 +40,7 @@ use Rattle.table.proofs.Dropped.{Leaving, leaves-dropped, meets-dropped
 use Rattle.table.proofs.Ends.{full, forgets, frees-all}
 use Rattle.meter.proofs.Plainly.{pre-plain, calls-plain}
 use Rattle.table.proofs.Arms.{assigns-on}
+use Rattle.table.proofs.Lent.{val}
 use Rattle.table.proofs.Rows.{byte-fits}
 use Rattle.call.proofs.Call as T
 use Rattle.call.proofs.Call.Laws as T′
@@ -52,9 +53,6 @@ use Rattle.table.proofs.call_at as f
 use Rattle.table.proofs.call_at.Statement as stated
 use Rattle.table.proofs.call_at.Code as code
 use Rattle.table.proofs.call_at.Code.Mir as body
-
-abbrev val : Call → Val
-val = LL.val T.the-type T′.the-laws
 
 -- the contract that the proof cites
 abbrev G : {M : Type 1} (𝓤 : URA M) (H : Heap 𝓤) (A : Atoms 𝓤) (mem : Memory → SProp 𝓤) (run : Routine → Fun 𝓤) → Contract 𝓤

@@ -54,8 +54,8 @@ use Rattle.table.proofs.Arms.{skips-to}
 use Rattle.table.proofs.Dropped.{Leaving, leaves-dropped, meets-dropped}
 use Rattle.table.proofs.Ends.{full, dying, forgets, frees-all}
 use Rattle.meter.proofs.Plainly.{pre-plain, calls-plain}
-use Rattle.table.proofs.Lent.{slice, shown}
-use Rattle.table.proofs.Asked.{val, uval, sval, AtPlace, FirstFrom, calls-place, calls-first}
+use Rattle.table.proofs.Lent.{val, slice, shown}
+use Rattle.table.proofs.Asked.{uval, sval, AtPlace, FirstFrom, calls-place, calls-first}
 use Rattle.table.proofs.Searched.{alone-at, sounds, fault-says, stops, goes-on}
 use Rattle.choosing.proofs.choice.Found as U
 use Rattle.choosing.proofs.choice.Found.Laws as U′

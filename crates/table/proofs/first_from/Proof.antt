@@ -53,8 +53,8 @@ use Rattle.table.proofs.Arms.{skips-to}
 use Rattle.table.proofs.Dropped.{Leaving, leaves-dropped, meets-dropped}
 use Rattle.table.proofs.Ends.{full, dying, forgets, frees-all}
 use Rattle.meter.proofs.Plainly.{pre-plain, calls-plain}
-use Rattle.table.proofs.Lent.{slice, shown}
-use Rattle.table.proofs.Asked.{val, uval, sval, AtPlace, calls-place}
+use Rattle.table.proofs.Lent.{val, slice, shown}
+use Rattle.table.proofs.Asked.{uval, sval, AtPlace, calls-place}
 use Rattle.table.proofs.Along.{one-more, dropped}
 use Rattle.choosing.proofs.choice.Found as U
 use Rattle.choosing.proofs.choice.Found.Laws as U′
