@@ -5,7 +5,7 @@ use crate::show::both;
 use crate::show::reads;
 use crate::show::writes_message;
 use crate::show::writes_nowhere;
-use cause::Cause;
+use causes::Cause;
 use component::facility::Component;
 use fields::Facilities;
 use fields::Header;

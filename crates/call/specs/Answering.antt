@@ -7,7 +7,7 @@ use Rattle.carriage.specs.declared.Seen.{Seen}
 use Rattle.standing.specs.declared.Answers.{Answers}
 use Rattle.fates.specs.declared.Fates.{Fates}
 use Rattle.numbers.specs.declared.Answer.{Answer}
-use Rattle.sent.specs.declared.Kind.{Kind}
+use Rattle.kinds.specs.declared.Kind.{Kind}
 use Rattle.sent.specs.declared.Sent.{Sent}
 use Rattle.phases.specs.declared.Phase.{Phase}
 use Rattle.call.specs.declared.Call.{Call}

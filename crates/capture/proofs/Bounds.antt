@@ -7,7 +7,7 @@ use native.Mathlib.Omega.{arith}
 use borrow.Author.Tests.{ltb-true, ltb-false}
 use lib.Dec.{ltb, leb, eqb}
 use lib.ListN.{length, getD, drop, length-append}
-use Rattle.cause.specs.declared.Cause.{Cause}
+use Rattle.causes.specs.declared.Cause.{Cause}
 use Rattle.component.specs.declared.facility.Wish.{Wish}
 use Rattle.component.specs.declared.facility.Refusal.{Refusal}
 use Rattle.component.specs.declared.facility.Component.{Component}

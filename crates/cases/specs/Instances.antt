@@ -8,7 +8,7 @@ use Rattle.standing.specs.declared.Given.{Given}
 use Rattle.standing.specs.declared.Request.{Request}
 use Rattle.standing.specs.declared.Standing.{Standing}
 use Rattle.asking.specs.declared.What.{What}
-use Rattle.sent.specs.declared.Kind.{Kind}
+use Rattle.kinds.specs.declared.Kind.{Kind}
 use Rattle.phases.specs.declared.Phase.{Phase}
 use Rattle.sides.specs.declared.Side.{Side}
 use Rattle.numbers.specs.Answer.{numberOf}

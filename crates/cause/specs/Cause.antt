@@ -4,7 +4,7 @@ use mathlib.Core.List.{List, [], _∷_}
 use mathlib.Core.Bool.{Bool, cond}
 use lib.ListN.{length, getD}
 use lib.Dec.{ltb, leb}
-use Rattle.cause.specs.declared.Cause.{Cause}
+use Rattle.causes.specs.declared.Cause.{Cause}
 
 -- "the low seven bits of the octet after the location octet and its extension, absent without that octet": a location octet
 -- below 80 hexadecimal has an extension, one of 80 or more has none

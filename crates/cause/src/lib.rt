@@ -2,14 +2,10 @@
 ghost use mathlib.Core.Path.{_≡_};
 ghost use Rattle.room.specs.Room.{Written};
 ghost use Rattle.cause.specs.Cause.{causeOf, causeFits, causeOctets};
+use causes::Cause;
 use room::Bar;
 use room::Wrote;
 use room::write_octets;
-
-pub enum Cause {
-    Absent,
-    Value(u8),
-}
 
 // What the body of a Cause element says.
 pub fn cause_in(body: &[u8]) -> Cause

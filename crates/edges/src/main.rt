@@ -5,8 +5,8 @@ use call::Call;
 use call::reply::Reply;
 use causes::Cause;
 use events::Event;
+use kinds::kind_octet;
 use libc::STDOUT_FILENO;
-use numerals::kind_number;
 use numerals::note_number;
 use numerals::number;
 use rights::Rights;
@@ -37,7 +37,7 @@ fn show_sent(s: Sent) {
         Sent::Present(m) => {
             let kind = m.kind;
             let cause = m.cause;
-            io::print_hex(STDOUT_FILENO, kind_number(kind) as u64, 2);
+            io::print_hex(STDOUT_FILENO, kind_octet(kind) as u64, 2);
             show_cause(cause);
             if m.element {
                 io::write_all(STDOUT_FILENO, b"+");

@@ -4,7 +4,7 @@ use mathlib.Core.List.{List, [], _∷_}
 use mathlib.Core.Bool.{false, cond}
 use lib.ListN.{length}
 use lib.Dec.{eqb}
-use Rattle.cause.specs.declared.Cause.{Cause}
+use Rattle.causes.specs.declared.Cause.{Cause}
 use Rattle.component.specs.declared.facility.Component.{Component}
 use Rattle.component.specs.declared.facility.Facility.{Facility}
 use Rattle.cause.specs.Cause.{causeOf}

@@ -1,5 +1,5 @@
 // What a message says, by value.
-use cause::Cause;
+use causes::Cause;
 use component::facility::Component;
 use kinds::Kind;
 

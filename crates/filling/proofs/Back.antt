@@ -5,7 +5,7 @@ use mathlib.Core.Bool.{true}
 use mathlib.Core.Path.{_≡_, refl}
 use native.Mathlib.Omega.{arith}
 use borrow.Author.Tests.{ltb-true}
-use Rattle.cause.specs.declared.Cause.{Cause}
+use Rattle.causes.specs.declared.Cause.{Cause}
 use Rattle.component.specs.declared.facility.Service.{Service}
 use Rattle.component.specs.declared.facility.Wish.{Wish}
 use Rattle.component.specs.declared.facility.Refusal.{Refusal}

@@ -4,7 +4,7 @@ use mathlib.Core.List.{List}
 use mathlib.Core.Bool.{Bool, true, false, _&&_}
 use lib.Dec.{ltb}
 use Rattle.writable.specs.Writable.{elementFitsOf}
-use Rattle.cause.specs.declared.Cause.{Cause}
+use Rattle.causes.specs.declared.Cause.{Cause}
 use Rattle.cause.specs.Cause.{causeFits}
 use Rattle.component.specs.Facility.{componentFits}
 use Rattle.kinds.specs.declared.Kind.{Kind}

@@ -1,7 +1,7 @@
 // Whether every field of a message is in range.
 ghost use mathlib.Core.Path.{_≡_};
 ghost use Rattle.fitting.specs.Fitting.{referenceFits, plainFits, moreFits, levelFits, singleFits, causesFit, facilitiesFit, messageFits};
-use cause::Cause;
+use causes::Cause;
 use component::facility::component_fits;
 use fields::Facilities;
 use fields::Message;

@@ -1,8 +1,8 @@
 // What the elements of a message have said so far, and then one more.
 ghost use mathlib.Core.Path.{_≡_};
 ghost use Rattle.found.specs.Found.{noteCause, noteFacility, notePlace, causeSeen};
-use cause::Cause;
 use cause::cause_in;
+use causes::Cause;
 use component::facility::Facility;
 use fields::Facilities;
 use fields::Place;

@@ -2,7 +2,7 @@
 use Prim.Native.Nat.{ℕ}
 use mathlib.Core.List.{List, [], _∷_, _++_}
 use mathlib.Core.Bool.{Bool, true, false}
-use Rattle.cause.specs.declared.Cause.{Cause}
+use Rattle.causes.specs.declared.Cause.{Cause}
 use Rattle.fields.specs.declared.Single.{Single}
 use Rattle.fields.specs.declared.Header.{Header}
 use Rattle.fields.specs.declared.Place.{Place}

@@ -13,7 +13,7 @@ ghost use Rattle.text.specs.Columns.{column};
 ghost use Rattle.facilities.specs.Column.{facilityColumn};
 ghost use Rattle.line.specs.Columns.{flagDigit, headColumns, causeColumn, singleColumn, elementColumn, takenColumns, columnsOf};
 ghost use Rattle.line.specs.Line.{lineOf};
-use cause::Cause;
+use causes::Cause;
 use elements::Fault;
 use elements::Read;
 use elements::Reading;

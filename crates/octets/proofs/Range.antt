@@ -8,7 +8,7 @@ use native.Mathlib.Omega.{arith}
 use borrow.Author.Tests.{lt-ltb, ltb-true}
 use lib.ListN.{length}
 use lib.Dec.{ltb}
-use Rattle.cause.specs.declared.Cause.{Cause}
+use Rattle.causes.specs.declared.Cause.{Cause}
 use Rattle.component.specs.Facility.{invokeNumber}
 use Rattle.kinds.specs.declared.Kind.{Kind}
 use Rattle.fields.specs.declared.Width.{Width}

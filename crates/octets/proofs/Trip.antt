@@ -10,7 +10,7 @@ use borrow.Author.Tests.{ltb-true, le-leb, lt-leb, le-ltb}
 use lib.ListN.{length, length-append}
 use lib.Seq.{take-length, drop-at}
 use lib.Dec.{leb}
-use Rattle.cause.specs.declared.Cause.{Cause}
+use Rattle.causes.specs.declared.Cause.{Cause}
 use Rattle.component.specs.declared.facility.Component.{Component}
 use Rattle.component.specs.Facility.{componentFits}
 use Rattle.filling.specs.Filling.{bodyOf, facilityOctets}

@@ -6,7 +6,7 @@ use mathlib.Core.Bool.{true}
 use mathlib.Core.Path.{_≡_}
 use lib.ListN.{length, getD, take, drop, replicate}
 use Rattle.order.specs.First.{Rows, end, row, Exactly}
-use Rattle.cause.specs.declared.Cause.{Cause}
+use Rattle.causes.specs.declared.Cause.{Cause}
 use Rattle.room.specs.declared.Wrote.{Wrote}
 use Rattle.room.specs.Room.{wroteOf, leftOf}
 use Rattle.component.specs.Facility.{invokeNumber}

@@ -11,21 +11,14 @@ use Rattle.causes.specs.declared.Cause.{Cause}
 use Rattle.carriage.specs.declared.Note.{Note}
 use Rattle.carriage.specs.declared.Seen.{Seen}
 use Rattle.rights.specs.declared.Rights.{Rights}
-use Rattle.standing.specs.declared.Answers.{Answers}
 use Rattle.standing.specs.declared.Facilities.{Facilities}
-use Rattle.fates.specs.declared.Fate.{Fate}
 use Rattle.fates.specs.declared.Fates.{Fates}
-use Rattle.standing.specs.declared.Given.{Given}
 use Rattle.standing.specs.declared.Requests.{Requests}
-use Rattle.standing.specs.declared.Standing.{Standing}
-use Rattle.standing.specs.declared.Standings.{Standings}
-use Rattle.causes.specs.Cause.{firstOf}
 use Rattle.carriage.specs.Element.{wholeOf}
 use Rattle.requests.specs.Requests.{lacksOf, toCallerOf, toCalledOf}
-use Rattle.fates.specs.Fates.{decidedOf, alertingFatesOf, connectFatesOf}
-use Rattle.consequences.specs.Consequences.{failureOf, failedOf}
+use Rattle.consequences.specs.Consequences.{failedOf}
 use Rattle.numbers.specs.declared.Answer.{Answer}
-use Rattle.sent.specs.declared.Kind.{Kind}
+use Rattle.kinds.specs.declared.Kind.{Kind}
 use Rattle.sent.specs.declared.Level.{Level}
 use Rattle.sent.specs.declared.Sent.{Sent}
 use Rattle.phases.specs.declared.Phase.{Phase}
@@ -52,6 +45,7 @@ use Rattle.chosen.specs.Chosen.{chosenOf}
 use Rattle.settling.specs.Settle.{settledOf, refusalOf, outcomeOf as settledOutcome}
 use Rattle.exchange.specs.Step.{outcomeAt, stepOutcome}
 use Rattle.decide.proofs.Decide.{by-cond}
+use Rattle.ranges.proofs.Failing.{alerting-cause, connect-cause}
 
 -- causes, messages and replies with causes up to 127
 abbrev pub CauseIn : Cause → Type 0
@@ -103,38 +97,6 @@ setup-says reference rights q seen =
       called = by-cond SentIn (lacksOf rights q) (λ _. tt) (λ _. saying-in _ _ _ _ tt);
     }
 
--- the cause of a failed service is 29 or 69
-decided-in : (s : Standing) (g : Given) → CauseIn (failureOf (decidedOf s g))
-decided-in Standing.Preferred Given.Accepted = tt
-decided-in Standing.Preferred Given.Rejected = tt
-decided-in Standing.Preferred Given.Silent = tt
-decided-in Standing.Required Given.Accepted = tt
-decided-in Standing.Required Given.Rejected = omega arith
-decided-in Standing.Required Given.Silent = omega arith
-decided-in Standing.Unasked g = tt
-decided-in Standing.InForce g = tt
-decided-in Standing.Closed g = tt
-
-first-in : (a b : Cause) → CauseIn a → CauseIn b → CauseIn (firstOf a b)
-first-in Cause.Absent b p q = q
-first-in (Cause.Value n) b p q = p
-
-failed-in : (f : Fates) → CauseIn (failureOf (f .one)) → CauseIn (failureOf (f .two)) → CauseIn (failureOf (f .three)) → CauseIn (failedOf f)
-unfolding failedOf
-failed-in f p q r = first-in (failureOf (f .one)) _ p (first-in (failureOf (f .two)) _ q r)
-
-alerting-in : (s : Standings) (a : Answers) → CauseIn (failedOf (alertingFatesOf s a))
-unfolding alertingFatesOf
-alerting-in s a = failed-in _ (decided-in (s .one) (a .one)) (decided-in (s .two) (a .two)) tt
-
-kept-in : (b : Bool) (s : Standing) (g : Given) → CauseIn (failureOf (cond b Fate.Kept (decidedOf s g)))
-kept-in b s g = by-cond (λ f. CauseIn (failureOf f)) b (λ _. tt) (λ _. decided-in s g)
-
-connect-in : (alerted : Bool) (s : Standings) (a : Answers) → CauseIn (failedOf (connectFatesOf alerted s a))
-unfolding connectFatesOf
-connect-in alerted s a =
-    failed-in _ (kept-in alerted (s .one) (a .one)) (kept-in alerted (s .two) Given.Silent) (decided-in (s .three) (a .three))
-
 outcome-says : (c : Call) (kind : Kind) (next : Phase) (f : Fates) (seen : Seen) (x : Cause) → CauseIn x → Says (outcomeOf c kind next f seen x)
 unfolding goesOnOf clearsOf bareOf
 outcome-says c kind next f seen Cause.Absent h = record { calling = saying-in _ _ _ _ tt; called = tt }
@@ -173,8 +135,8 @@ in-bar c a cause h = leb-true cause 127 (ranged-bar (soundOf c) a (leb cause 127
 says : (c : Call) (e : Event) (l : List ℕ) → Says (stepOf c e l)
 unfolding setupOf alertingOf connectOf informationOf facilityOf passesFacilityOf aboutThreeOf disconnectOf passedOnOf releaseCompleteOf endsOf bareOf tickOf notAnEventOf
 says c (Event.Setup reference rights q) l = heard-says c _ _ (λ _. setup-says reference rights q _)
-says c (Event.Alerting answers) l = heard-says c _ _ (λ _. answered-says c _ _ _ l (alerting-in (c .standings) answers))
-says c (Event.Connect answers) l = heard-says c _ _ (λ _. answered-says c _ _ _ l (connect-in _ (c .standings) answers))
+says c (Event.Alerting answers) l = heard-says c _ _ (λ _. answered-says c _ _ _ l (alerting-cause CauseIn tt (omega arith) (omega arith) (c .standings) answers))
+says c (Event.Connect answers) l = heard-says c _ _ (λ _. answered-says c _ _ _ l (connect-cause CauseIn tt (omega arith) (omega arith) _ (c .standings) answers))
 says c (Event.Information side more) l = heard-says c _ _ (λ _. element-says c _ _ (carried-says c side more _))
 says c (Event.Facility side what) l = heard-says c _ _ (λ _. side-says side _ _ _ _ _ (only-in _ _ (saying-in _ _ _ _ tt)) (only-in _ _ (saying-in _ _ _ _ tt)))
 says c (Event.Disconnect side cause answers) l = heard-says c _ _ (λ h. side-says side _ _ _ _ _ tt (saying-in _ _ _ _ (in-bar c _ cause h)))

@@ -23,7 +23,7 @@ use Rattle.standing.specs.declared.Request.{Request}
 use Rattle.standing.specs.declared.Requests.{Requests}
 use Rattle.standing.specs.declared.Standing.{Standing}
 use Rattle.numbers.specs.declared.Answer.{Answer}
-use Rattle.sent.specs.declared.Kind.{Kind}
+use Rattle.kinds.specs.declared.Kind.{Kind}
 use Rattle.phases.specs.declared.Phase.{Phase}
 use Rattle.sides.specs.declared.Side.{Side}
 use Rattle.call.specs.declared.Call.{Call}

@@ -12,7 +12,7 @@ ghost use Rattle.report.specs.Line.{typeColumn, saidColumns, numberColum
 use body::kind::Kind;
 use carriage::Note;
 use items::write_sent;
-use numerals::kind_number;
+use kinds::kind_octet;
 use numerals::note_number;
 use room::Wrote;
 use room::end_of;
@@ -43,7 +43,7 @@ fn put_type(buf: &mut [u8], at: usize, s: Sent) -> usize
         }
         Sent::Present(m) => {
             let kind = m.kind;
-            end_of(write_hex(buf, at + 1, kind_number(kind)))
+            end_of(write_hex(buf, at + 1, kind_octet(kind)))
         }
     }
 }

@@ -13,7 +13,7 @@ use Rattle.standing.specs.declared.Standings.{Standings}
 use Rattle.rights.specs.Rights.{hasOf}
 use Rattle.causes.specs.Cause.{notSubscribed}
 use Rattle.carriage.specs.Element.{wholeOf, notedOf, goesOutOf}
-use Rattle.sent.specs.declared.Kind.{Kind}
+use Rattle.kinds.specs.declared.Kind.{Kind}
 use Rattle.sent.specs.declared.Sent.{Sent}
 use Rattle.phases.specs.declared.Phase.{Phase}
 use Rattle.sent.specs.Message.{sayingOf}

@@ -5,7 +5,6 @@ use mathlib.Core.Bool.{Bool, true, false, cond}
 use mathlib.Core.Path.{_≡_, refl, sym, ap, _∙_}
 use borrow.Author.Tests.{eq-eqb, ne-eqb}
 use lib.Dec.{eqb}
-use Rattle.cause.specs.declared.Cause.{Cause as LineCause}
 use Rattle.component.specs.declared.facility.Component.{Component}
 use Rattle.component.specs.declared.facility.Facility.{Facility}
 use Rattle.component.specs.declared.facility.Refusal.{Refusal}
@@ -15,40 +14,15 @@ use Rattle.component.specs.Facility.{invokeNumber}
 use Rattle.fields.specs.declared.Facilities.{Facilities as LineFacilities}
 use Rattle.fields.specs.declared.Message.{Message as LineMessage}
 use Rattle.fields.specs.declared.Single.{Single}
-use Rattle.kinds.specs.declared.Kind.{Kind as LineKind}
 use Rattle.elements.specs.Meaning.{andSays, firstThree}
 use Rattle.octets.proofs.Promises.{alike}
 use Rattle.octets.proofs.Range.{range-fits}
-use Rattle.causes.specs.declared.Cause.{Cause}
 use Rattle.standing.specs.declared.Facilities.{Facilities}
 use Rattle.standing.specs.declared.Said.{Said}
-use Rattle.sent.specs.declared.Kind.{Kind}
 use Rattle.sent.specs.declared.Level.{Level}
 use Rattle.sent.specs.declared.Message.{Message}
-use Rattle.sending.specs.Sending.{kindFor, singleFor, causeFor, componentFor, Host, facilitiesFor, wireOf, Different, Alike, Apart}
+use Rattle.sending.specs.Sending.{singleFor, componentFor, Host, facilitiesFor, wireOf, Different, Alike, Apart}
 use Rattle.sending.proofs.Sending.{moreIn, Fits, sent-fits, laid-out}
-
-abbrev kindFrom : LineKind → Kind
-kindFrom LineKind.Alerting = Kind.Alerting
-kindFrom LineKind.CallProceeding = Kind.CallProceeding
-kindFrom LineKind.Setup = Kind.Setup
-kindFrom LineKind.Connect = Kind.Connect
-kindFrom LineKind.UserInformation = Kind.UserInformation
-kindFrom LineKind.Disconnect = Kind.Disconnect
-kindFrom LineKind.ReleaseComplete = Kind.ReleaseComplete
-kindFrom LineKind.Facility = Kind.Facility
-kindFrom LineKind.CongestionControl = Kind.CongestionControl
-
-kind-again : (k : Kind) → kindFrom (kindFor k) ≡ k
-kind-again Kind.Alerting = refl
-kind-again Kind.CallProceeding = refl
-kind-again Kind.Setup = refl
-kind-again Kind.Connect = refl
-kind-again Kind.UserInformation = refl
-kind-again Kind.Disconnect = refl
-kind-again Kind.ReleaseComplete = refl
-kind-again Kind.Facility = refl
-kind-again Kind.CongestionControl = refl
 
 abbrev levelIn : Single → Level
 levelIn Single.Absent = Level.Absent
@@ -61,14 +35,6 @@ level-again Level.Absent true = refl
 level-again Level.Absent false = refl
 level-again Level.Ready more = refl
 level-again Level.NotReady more = refl
-
-abbrev causeFrom : LineCause → Cause
-causeFrom LineCause.Absent = Cause.Absent
-causeFrom (LineCause.Value v) = Cause.Value v
-
-cause-again : (c : Cause) → causeFrom (causeFor c) ≡ c
-cause-again Cause.Absent = refl
-cause-again (Cause.Value v) = refl
 
 -- what is said under an invoke number
 abbrev saidBy : Component → Said
@@ -159,8 +125,8 @@ module _ (h : Host) (d : Different h) (m m' : Message) (a b : ℕ) (f : Fits a m
   wire-alike : Alike m m'
   wire-alike =
       record {
-        kind = sym (kind-again (m .kind)) ∙ ap (λ (w : LineMessage). kindFrom (w .header .kind)) e ∙ kind-again (m' .kind);
-        cause = sym (cause-again (m .cause)) ∙ ap (λ (w : LineMessage). causeFrom (w .cause)) e ∙ cause-again (m' .cause);
+        kind = ap (λ (w : LineMessage). w .header .kind) e;
+        cause = ap (λ (w : LineMessage). w .cause) e;
         level = sym (level-again (m .level) (m .more)) ∙ ap (λ (w : LineMessage). levelIn (w .single)) e ∙ level-again (m' .level) (m' .more);
         more = sym (f .more) ∙ ap (λ (w : LineMessage). moreIn (w .single)) e ∙ g .more;
         one = sym (one-again h d (m .said)) ∙ said-same (h .one) ∙ one-again h d (m' .said);

@@ -24,17 +24,12 @@ use Rattle.causes.specs.declared.Cause.{Cause}
 use Rattle.carriage.specs.declared.Note.{Note}
 use Rattle.carriage.specs.declared.Seen.{Seen}
 use Rattle.rights.specs.declared.Rights.{Rights}
-use Rattle.standing.specs.declared.Answers.{Answers}
 use Rattle.standing.specs.declared.Facilities.{Facilities}
-use Rattle.fates.specs.declared.Fate.{Fate}
 use Rattle.fates.specs.declared.Fates.{Fates}
-use Rattle.standing.specs.declared.Given.{Given}
 use Rattle.standing.specs.declared.Requests.{Requests}
 use Rattle.standing.specs.declared.Said.{Said}
-use Rattle.standing.specs.declared.Standing.{Standing}
-use Rattle.standing.specs.declared.Standings.{Standings}
 use Rattle.numbers.specs.declared.Answer.{Answer}
-use Rattle.sent.specs.declared.Kind.{Kind}
+use Rattle.kinds.specs.declared.Kind.{Kind}
 use Rattle.sent.specs.declared.Level.{Level}
 use Rattle.sent.specs.declared.Message.{Message}
 use Rattle.sent.specs.declared.Sent.{Sent}
@@ -44,11 +39,9 @@ use Rattle.call.specs.declared.Call.{Call}
 use Rattle.events.specs.declared.Event.{Event}
 use Rattle.call.specs.declared.reply.Reply.{Reply}
 use Rattle.meter.specs.declared.Passage.{Passage}
-use Rattle.causes.specs.Cause.{firstOf}
 use Rattle.carriage.specs.Element.{wholeOf}
 use Rattle.requests.specs.Requests.{lacksOf, toCallerOf, toCalledOf}
-use Rattle.fates.specs.Fates.{decidedOf, alertingFatesOf, connectFatesOf}
-use Rattle.consequences.specs.Consequences.{failureOf, failedOf}
+use Rattle.consequences.specs.Consequences.{failedOf}
 use Rattle.sent.specs.Message.{sayingOf, bareOf, congestionOf, informsOf, onlyIfOf}
 use Rattle.passing.specs.Passing.{passesOf, marksOf}
 use Rattle.call.specs.Answering.{goesOnOf, clearsOf, outcomeOf, answeredOf, alertingOf, connectOf}
@@ -67,8 +60,9 @@ use Rattle.promises.specs.Numbers.{WellFormed}
 use Rattle.promises.specs.Notes.{limitFor}
 use Rattle.promises.specs.Refusals.{sentTo}
 use Rattle.promises.specs.Handling.{handedIn, handedTo}
-use Rattle.sending.specs.Sending.{kindFor, singleFor, causeFor, componentFor, Host, HostInRange, facilitiesFor, wireOf, Sending}
+use Rattle.sending.specs.Sending.{singleFor, componentFor, Host, HostInRange, facilitiesFor, wireOf, Sending}
 use Rattle.decide.proofs.Decide.{by-cond, both, le}
+use Rattle.ranges.proofs.Failing.{alerting-cause, connect-cause}
 use Rattle.promises.proofs.Heard.{Heard, through, barred, heard}
 use Rattle.ranges.proofs.Phases.{requested, connectable, talking, active, up, live}
 use Rattle.ranges.proofs.Ranges.{reference-range, rights-range, in-range}
@@ -111,9 +105,9 @@ moreIn Single.NotReady = false
 -- a message that the writer takes, once the host's numbers and the element are in range; and the limit on the element is
 pub record Fits (limit : ℕ) (m : Message) : Type 0 where
   most : limit ≤ 131
-  single : SingleIn (kindFor (m .kind)) (singleFor (m .level) (m .more))
+  single : SingleIn (m .kind) (singleFor (m .level) (m .more))
   pub more : moreIn (singleFor (m .level) (m .more)) ≡ m .more
-  cause : CauseIn (causeFor (m .cause))
+  cause : CauseIn (m .cause)
 
 abbrev Sends : ℕ → Sent → Type 0
 Sends limit Sent.Absent = Unit {0}
@@ -141,7 +135,7 @@ module _ (limit : ℕ) (most : limit ≤ 131) where
   unfolding onlyIfOf
   only-sends b s p = by-cond (Sends limit) b (λ _. p) (λ _. tt)
 
-  saying-sends : (kind : Kind) (cause : Cause) (said : Facilities) (element : Bool) → SingleIn (kindFor kind) Single.Absent → CauseIn (causeFor cause) → Sends limit (sayingOf kind cause said element)
+  saying-sends : (kind : Kind) (cause : Cause) (said : Facilities) (element : Bool) → SingleIn kind Single.Absent → CauseIn cause → Sends limit (sayingOf kind cause said element)
   unfolding sayingOf
   saying-sends kind cause said element s k = record { most = most; single = s; more = refl; cause = k }
 
@@ -168,13 +162,13 @@ module _ (limit : ℕ) (most : limit ≤ 131) where
         called = by-cond (Sends limit) (lacksOf rights q) (λ _. tt) (λ _. saying-sends _ _ _ _ refl tt);
       }
 
-  outcome-speaks : (c : Call) (kind : Kind) (next : Phase) (f : Fates) (seen : Seen) (x : Cause) → SingleIn (kindFor kind) Single.Absent → CauseIn (causeFor x) → Speaks limit (outcomeOf c kind next f seen x)
+  outcome-speaks : (c : Call) (kind : Kind) (next : Phase) (f : Fates) (seen : Seen) (x : Cause) → SingleIn kind Single.Absent → CauseIn x → Speaks limit (outcomeOf c kind next f seen x)
   unfolding goesOnOf clearsOf bareOf
   outcome-speaks c kind next f seen Cause.Absent s k = record { calling = saying-sends _ _ _ _ s tt; called = tt }
   outcome-speaks c kind next f seen (Cause.Value n) s k =
       record { calling = saying-sends _ _ _ _ refl k; called = saying-sends _ _ _ _ refl (omega arith) }
 
-  answered-speaks : (c : Call) (kind : Kind) (next : Phase) (f : Fates) (l : List ℕ) → SingleIn (kindFor kind) Single.Absent → CauseIn (causeFor (failedOf f)) → Speaks limit (answeredOf c kind next f l)
+  answered-speaks : (c : Call) (kind : Kind) (next : Phase) (f : Fates) (l : List ℕ) → SingleIn kind Single.Absent → CauseIn (failedOf f) → Speaks limit (answeredOf c kind next f l)
   unfolding answeredOf
   answered-speaks c kind next f l s k = outcome-speaks c kind next f _ (failedOf f) s k
 
@@ -198,40 +192,6 @@ module _ (limit : ℕ) (most : limit ≤ 131) where
         called = only-sends _ _ (congestion-sends Level.Ready (inl refl) refl);
       }
 
--- the cause of a failed service
-abbrev FateIn : Fate → Type 0
-FateIn f = CauseIn (causeFor (failureOf f))
-
-decided-in : (s : Standing) (g : Given) → FateIn (decidedOf s g)
-decided-in Standing.Preferred Given.Accepted = tt
-decided-in Standing.Preferred Given.Rejected = tt
-decided-in Standing.Preferred Given.Silent = tt
-decided-in Standing.Required Given.Accepted = tt
-decided-in Standing.Required Given.Rejected = omega arith
-decided-in Standing.Required Given.Silent = omega arith
-decided-in Standing.Unasked g = tt
-decided-in Standing.InForce g = tt
-decided-in Standing.Closed g = tt
-
-first-in : (a b : Cause) → CauseIn (causeFor a) → CauseIn (causeFor b) → CauseIn (causeFor (firstOf a b))
-first-in Cause.Absent b p q = q
-first-in (Cause.Value n) b p q = p
-
-failed-in : (f : Fates) → FateIn (f .one) → FateIn (f .two) → FateIn (f .three) → CauseIn (causeFor (failedOf f))
-unfolding failedOf
-failed-in f p q r = first-in (failureOf (f .one)) _ p (first-in (failureOf (f .two)) _ q r)
-
-alerting-in : (s : Standings) (a : Answers) → CauseIn (causeFor (failedOf (alertingFatesOf s a)))
-unfolding alertingFatesOf
-alerting-in s a = failed-in _ (decided-in (s .one) (a .one)) (decided-in (s .two) (a .two)) tt
-
-connect-in : (alerted : Bool) (s : Standings) (a : Answers) → CauseIn (causeFor (failedOf (connectFatesOf alerted s a)))
-unfolding connectFatesOf
-connect-in alerted s a =
-    failed-in _ (by-cond FateIn alerted (λ _. tt) (λ _. decided-in (s .one) (a .one)))
-    (by-cond FateIn alerted (λ _. tt) (λ _. decided-in (s .two) Given.Silent))
-    (decided-in (s .three) (a .three))
-
 -- any event
 speaks : (c : Call) (e : Event) (l : List ℕ) → Speaks (limitFor c e) (stepOf c e l)
 unfolding setupOf alertingOf connectOf informationOf facilityOf passesFacilityOf aboutThreeOf disconnectOf passedOnOf releaseCompleteOf endsOf bareOf tickOf notAnEventOf
@@ -240,10 +200,10 @@ speaks c (Event.Setup reference rights q) l =
     (λ _ _ g. setup-speaks _ (both _ _ (reference-range reference) (rights-range rights) .so g .1 .limit .1) reference rights q _)
 speaks c (Event.Alerting answers) l =
     live-speaks c _ _ _ (heard c _ _ _) (λ h. inl (inl (requested (c .phase) .so h)))
-    (λ k _. answered-speaks _ k c Kind.Alerting _ _ l refl (alerting-in (c .standings) answers))
+    (λ k _. answered-speaks _ k c Kind.Alerting _ _ l refl (alerting-cause CauseIn tt (omega arith) (omega arith) (c .standings) answers))
 speaks c (Event.Connect answers) l =
     live-speaks c _ _ _ (heard c _ _ _) (λ h. inl (⊎-elim (λ e. inl e) (λ e. inr (inl e)) (connectable (c .phase) .so h)))
-    (λ k _. answered-speaks _ k c Kind.Connect _ _ l refl (connect-in _ (c .standings) answers))
+    (λ k _. answered-speaks _ k c Kind.Connect _ _ l refl (connect-cause CauseIn tt (omega arith) (omega arith) _ (c .standings) answers))
 speaks c (Event.Information side more) l =
     live-speaks c _ _ _ (heard c _ _ _) (λ h. inl (inr (talking (c .phase) .so h))) (λ k _. element-speaks _ k c side more _)
 speaks c (Event.Facility side what) l =

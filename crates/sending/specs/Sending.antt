@@ -4,7 +4,6 @@ use mathlib.Core.List.{List, []}
 use mathlib.Core.Bool.{Bool, true, cond}
 use mathlib.Core.Path.{_≡_}
 use lib.ListN.{length, take}
-use Rattle.cause.specs.declared.Cause.{Cause as LineCause}
 use Rattle.component.specs.declared.facility.Component.{Component}
 use Rattle.component.specs.declared.facility.Facility.{Facility}
 use Rattle.component.specs.declared.facility.Refusal.{Refusal}
@@ -16,15 +15,12 @@ use Rattle.fields.specs.declared.Facilities.{Facilities as LineFacilities}
 use Rattle.fields.specs.declared.Message.{Message as LineMessage}
 use Rattle.fields.specs.declared.Single.{Single}
 use Rattle.fields.specs.declared.Width.{Width}
-use Rattle.kinds.specs.declared.Kind.{Kind as LineKind}
 use Rattle.elements.specs.Meaning.{andSays, firstThree}
 use Rattle.parts.specs.Parts.{userUserOf}
 use Rattle.sizes.specs.Writing.{messageOctets}
 use Rattle.octets.specs.Promises.{highest, answerOf, bufferOf, Back}
-use Rattle.causes.specs.declared.Cause.{Cause}
 use Rattle.standing.specs.declared.Facilities.{Facilities}
 use Rattle.standing.specs.declared.Said.{Said}
-use Rattle.sent.specs.declared.Kind.{Kind}
 use Rattle.sent.specs.declared.Level.{Level}
 use Rattle.sent.specs.declared.Message.{Message}
 use Rattle.sent.specs.declared.Sent.{Sent}
@@ -35,26 +31,11 @@ use Rattle.call.specs.Step.{stepOf}
 use Rattle.promises.specs.Refusals.{sentTo}
 use Rattle.promises.specs.Handling.{handedIn}
 
-abbrev pub kindFor : Kind → LineKind
-kindFor Kind.Alerting = LineKind.Alerting
-kindFor Kind.CallProceeding = LineKind.CallProceeding
-kindFor Kind.Setup = LineKind.Setup
-kindFor Kind.Connect = LineKind.Connect
-kindFor Kind.UserInformation = LineKind.UserInformation
-kindFor Kind.Disconnect = LineKind.Disconnect
-kindFor Kind.ReleaseComplete = LineKind.ReleaseComplete
-kindFor Kind.Facility = LineKind.Facility
-kindFor Kind.CongestionControl = LineKind.CongestionControl
-
 -- the single octet: a congestion level, More data, or none
 abbrev pub singleFor : Level → Bool → Single
 singleFor Level.Ready more = Single.Ready
 singleFor Level.NotReady more = Single.NotReady
 singleFor Level.Absent more = cond more Single.MoreData Single.Absent
-
-abbrev pub causeFor : Cause → LineCause
-causeFor Cause.Absent = LineCause.Absent
-causeFor (Cause.Value v) = LineCause.Value v
 
 -- what is said of a service, under the invoke number that the host has for it
 abbrev pub componentFor : ℕ → Service → Said → Facility
@@ -91,9 +72,9 @@ facilitiesFor h s =
 abbrev pub wireOf : Host → Message → LineMessage
 wireOf h m =
     record {
-      header = record { width = h .width; flag = h .flag; reference = h .reference; kind = kindFor (m .kind) };
+      header = record { width = h .width; flag = h .flag; reference = h .reference; kind = m .kind };
       single = singleFor (m .level) (m .more);
-      cause = causeFor (m .cause);
+      cause = m .cause;
       facility = facilitiesFor h (m .said);
     }
 

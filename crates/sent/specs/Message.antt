@@ -1,26 +1,12 @@
 -- A message to one user: "At most one message goes to each user per event."
-use Prim.Native.Nat.{ℕ}
 use mathlib.Core.Bool.{Bool, true, false, cond}
 use Rattle.causes.specs.declared.Cause.{Cause}
 use Rattle.standing.specs.declared.Facilities.{Facilities}
 use Rattle.standing.specs.declared.Said.{Said}
-use Rattle.sent.specs.declared.Kind.{Kind}
+use Rattle.kinds.specs.declared.Kind.{Kind}
 use Rattle.sent.specs.declared.Level.{Level}
 use Rattle.sent.specs.declared.Sent.{Sent}
 use Rattle.causes.specs.Cause.{discarded}
-
--- "Nine types, hexadecimal: ALERTING 01, CALL PROCEEDING 02, SETUP 05, CONNECT 07, USER INFORMATION 20, DISCONNECT 45, RELEASE COMPLETE 5A,
--- FACILITY 62, CONGESTION CONTROL 79."
-abbrev pub kindNumberOf : Kind → ℕ
-kindNumberOf Kind.Alerting = 1
-kindNumberOf Kind.CallProceeding = 2
-kindNumberOf Kind.Setup = 5
-kindNumberOf Kind.Connect = 7
-kindNumberOf Kind.UserInformation = 32
-kindNumberOf Kind.Disconnect = 69
-kindNumberOf Kind.ReleaseComplete = 90
-kindNumberOf Kind.Facility = 98
-kindNumberOf Kind.CongestionControl = 121
 
 -- nothing is said of any service
 unfoldable pub silence : Facilities

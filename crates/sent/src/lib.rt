@@ -3,6 +3,7 @@ ghost use mathlib.Core.Path.{_≡_};
 ghost use Rattle.sent.specs.Message.{sayingOf, bareOf, congestionOf, informsOf, onlyIfOf};
 use causes::Cause;
 use causes::DISCARDED;
+use kinds::Kind;
 use standing::Facilities;
 use standing::Said;
 
@@ -12,18 +13,6 @@ const SILENCE: Facilities = Facilities {
     two: Said::Nothing,
     three: Said::Nothing,
 };
-
-pub enum Kind {
-    Alerting,
-    CallProceeding,
-    Setup,
-    Connect,
-    UserInformation,
-    Disconnect,
-    ReleaseComplete,
-    Facility,
-    CongestionControl,
-}
 
 pub enum Level {
     Absent,

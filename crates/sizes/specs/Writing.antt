@@ -2,7 +2,7 @@
 use Prim.Native.Nat.{ℕ, _+_, _/_, _%_}
 use mathlib.Core.List.{List, [], _∷_, _++_}
 use mathlib.Core.Bool.{Bool, true, false}
-use Rattle.cause.specs.declared.Cause.{Cause}
+use Rattle.causes.specs.declared.Cause.{Cause}
 use Rattle.cause.specs.Cause.{causeOctets}
 use Rattle.filling.specs.Filling.{facilityOctets}
 use Rattle.fields.specs.declared.Width.{Width}

@@ -4,7 +4,7 @@ ghost use Prim.Native.Nat.{_≤_};
 ghost use lib.ListN.{length};
 ghost use Rattle.filling.specs.Filling.{facilityOctets};
 ghost use Rattle.sizes.specs.Writing.{headerSize, singleOctets, causesOctets, facilitiesOctets, frontOctets};
-use cause::Cause;
+use causes::Cause;
 use component::facility::Component;
 use fields::Facilities;
 use fields::Message;

@@ -5,7 +5,7 @@ use Rattle.numbers.specs.declared.Answer.{Answer}
 use Rattle.asking.specs.declared.What.{What}
 use Rattle.numbers.specs.Answer.{takenOf}
 use Rattle.causes.specs.declared.Cause.{Cause}
-use Rattle.sent.specs.declared.Kind.{Kind}
+use Rattle.kinds.specs.declared.Kind.{Kind}
 use Rattle.sent.specs.declared.Sent.{Sent}
 use Rattle.sent.specs.Message.{sayingOf, onlyIfOf}
 

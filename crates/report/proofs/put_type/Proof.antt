@@ -27,8 +27,8 @@ enum-known-s c = search needs
 add-write-hex : tie.Need-add-write-hex
 add-write-hex c = search needs
 
-kind-number-requires : tie.Need-kind-number-requires
-kind-number-requires c κs = search needs
+kind-octet-requires : tie.Need-kind-octet-requires
+kind-octet-requires c κs = search needs
 
 write-hex-requires : tie.Need-write-hex-requires
 write-hex-requires c κs = search needs
@@ -46,7 +46,7 @@ same-length-2 : tie.Need-same-length-2
 same-length-2 c = c .before .before .buf .given ∙ simp length-set
 
 returns-2 : tie.Need-returns-2
-returns-2 c = spelled (simp (c .before .before .before .before .kind-number .ensures, c .before .before .before .before .before .before .before .s .given .1)) (omega arith) (marked {m = 2} (c .before .before .before .before .before .before .before .before .before .before .pre) (omega arith) (c .before .before .before .write-hex .ensures) (c .end-of .ensures))
+returns-2 c = spelled (simp (c .before .before .before .before .kind-octet .ensures, c .before .before .before .before .before .before .before .s .given .1)) (omega arith) (marked {m = 2} (c .before .before .before .before .before .before .before .before .before .before .pre) (omega arith) (c .before .before .before .write-hex .ensures) (c .end-of .ensures))
 
 pub put-type-spec : {M : Type 1} → statement M
-put-type-spec = tie.close (tie.spec slice-write-buf enum-told add-buf slice-write-buf-2 add-result enum-known-s add-write-hex kind-number-requires write-hex-requires end-of-requires same-length returns same-length-2 returns-2)
+put-type-spec = tie.close (tie.spec slice-write-buf enum-told add-buf slice-write-buf-2 add-result enum-known-s add-write-hex kind-octet-requires write-hex-requires end-of-requires same-length returns same-length-2 returns-2)
