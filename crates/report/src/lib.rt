@@ -72,7 +72,7 @@ fn put_saids(buf: &mut [u8], at: usize, explained: bool, o: Columns) -> usize
     at
 }
 
-fn kind_octet(k: Kind) -> u8
+fn record_kind(k: Kind) -> u8
     ensures { λ r. ⌜ r ≡ kindOctet k ⌝ }
 {
     match k {
@@ -104,7 +104,7 @@ fn put_numbers(buf: &mut [u8], at: usize, o: Columns) -> usize
     let reference = o.reference;
     let answer = o.answer;
     let note = o.note;
-    let a = end_of(write_decimal(buf, at, kind_octet(kind) as u64));
+    let a = end_of(write_decimal(buf, at, record_kind(kind) as u64));
     let b = put_number(buf, a, reference as u64);
     let c = put_number(buf, b, answer as u64);
     put_number(buf, c, note_number(note) as u64)

@@ -7,8 +7,8 @@ use borrow.Author.Needs.{needs}
 use Rattle.report.proofs.put_numbers.Statement.{statement}
 use Rattle.report.proofs.put_numbers.Tie as tie
 
-kind-octet-requires : tie.Need-kind-octet-requires
-kind-octet-requires c κs = search needs
+record-kind-requires : tie.Need-record-kind-requires
+record-kind-requires c κs = search needs
 
 cast-write-decimal : tie.Need-cast-write-decimal
 cast-write-decimal c = search needs
@@ -45,7 +45,7 @@ same-length c = search needs
 
 returns : tie.Need-returns
 unfolding numberColumns
-returns c = spelled (simp (c .before .before .before .note-number .ensures, c .before .before .before .before .before .before .before .before .before .before .before .before .before .before .before .before .before .kind-octet .ensures)) (omega arith) (four {m₁ = 20} (c .before .before .before .before .before .before .before .before .before .before .before .before .before .before .before .before .before .before .before .before .pre) (settled {most = 20} (omega arith) (at-most-twenty _ (omega arith)) (c .before .before .before .before .before .before .before .before .before .before .before .before .before .before .before .before .write-decimal .ensures) (c .before .before .before .before .before .before .before .before .before .before .before .before .before .end-of .ensures)) (c .before .before .before .before .before .before .before .before .before .before .before .put-number .ensures) (c .before .before .before .before .before .before .before .put-number2 .ensures) (c .before .before .put-number3 .ensures))
+returns c = spelled (simp (c .before .before .before .note-number .ensures, c .before .before .before .before .before .before .before .before .before .before .before .before .before .before .before .before .before .record-kind .ensures)) (omega arith) (four {m₁ = 20} (c .before .before .before .before .before .before .before .before .before .before .before .before .before .before .before .before .before .before .before .before .pre) (settled {most = 20} (omega arith) (at-most-twenty _ (omega arith)) (c .before .before .before .before .before .before .before .before .before .before .before .before .before .before .before .before .write-decimal .ensures) (c .before .before .before .before .before .before .before .before .before .before .before .before .before .end-of .ensures)) (c .before .before .before .before .before .before .before .before .before .before .before .put-number .ensures) (c .before .before .before .before .before .before .before .put-number2 .ensures) (c .before .before .put-number3 .ensures))
 
 pub put-numbers-spec : {M : Type 1} → statement M
-put-numbers-spec = tie.close (tie.spec kind-octet-requires cast-write-decimal write-decimal-requires end-of-requires cast-put-number put-number-requires cast-put-number-2 put-number-requires-2 note-number-requires cast-put-number-3 put-number-requires-3 same-length returns)
+put-numbers-spec = tie.close (tie.spec record-kind-requires cast-write-decimal write-decimal-requires end-of-requires cast-put-number put-number-requires cast-put-number-2 put-number-requires-2 note-number-requires cast-put-number-3 put-number-requires-3 same-length returns)
