@@ -1,5 +1,7 @@
 // FACILITY: service 3 asked for, accepted or rejected while connected.
 ghost use mathlib.Core.Path.{_≡_};
+ghost use mathlib.Core.Bool.{cond};
+ghost use Rattle.numbers.specs.Answer.{takenOf};
 ghost use Rattle.call.specs.Facility.{facilityVerdictOf, facilityCallOf, passesFacilityOf, facilityOf};
 use crate::Call;
 use crate::reply::Reply;
@@ -11,6 +13,7 @@ use asking::facility_three;
 use asking::verdict;
 use carriage::Note;
 use meters::facility_meters;
+use numbers::Answer;
 use numbers::taken;
 use phases::is_active;
 use sides::Side;
@@ -19,9 +22,13 @@ use standing::in_force;
 use telling::to_asker;
 use telling::to_other;
 
-fn facility_call(c: Call, side: Side, what: What) -> Call
-    ensures { λ r. ⌜ r ≡ facilityCallOf c side what ⌝ }
+// A refusal leaves the record as it was.
+fn facility_call(c: Call, side: Side, what: What, answer: Answer) -> Call
+    ensures { λ r. ⌜ r ≡ cond (takenOf answer) (facilityCallOf c side what) c ⌝ }
 {
+    if !taken(answer) {
+        return c;
+    }
     let rights = c.rights;
     let phase = c.phase;
     let standings = c.standings;
@@ -52,14 +59,14 @@ fn passes_facility(c: Call, side: Side, what: What) -> Reply
     let standings = c.standings;
     let three = standings.three;
     let answer = verdict(rights, asking, in_force(three), side, what);
-    let back = to_asker(answer);
-    let on = to_other(answer, what);
-    if taken(answer) {
-        let next = facility_call(c, side, what);
-        reply_to(side, next, answer, Note::Clear, back, on)
-    } else {
-        reply_to(side, c, answer, Note::Clear, back, on)
-    }
+    reply_to(
+        side,
+        facility_call(c, side, what, answer),
+        answer,
+        Note::Clear,
+        to_asker(answer),
+        to_other(answer, what),
+    )
 }
 
 impl Call {

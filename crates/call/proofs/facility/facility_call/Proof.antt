@@ -1,7 +1,14 @@
 use Rattle.call.specs.Facility.{facilityCallOf}
+use borrow.Author.Tests.{not-true, not-false}
 use borrow.Author.Needs.{needs}
 use Rattle.call.proofs.facility.facility_call.Statement.{statement}
 use Rattle.call.proofs.facility.facility_call.Tie as tie
+
+taken-requires : tie.Need-taken-requires
+taken-requires c κs = search needs
+
+returns : tie.Need-returns
+returns c = simp (not-true (c .before .taken .result) (c .if1 .taken), ← (c .before .taken .ensures))
 
 facility-three-requires : tie.Need-facility-three-requires
 facility-three-requires c κs = search needs
@@ -12,11 +19,11 @@ facility-asking-requires c κs = search needs
 facility-meters-requires : tie.Need-facility-meters-requires
 facility-meters-requires c κs = search needs
 
-returns : tie.Need-returns
+returns-2 : tie.Need-returns-2
 unfolding facilityCallOf
-returns c = simp (c .facility-meters .ensures, c .before .facility-asking .ensures, c .before .before .facility-three .ensures)
+returns-2 c = simp (not-false (c .before .before .before .before .before .before .before .before .taken .result) (c .before .before .before .before .before .before .before .if1 .left), ← (c .before .before .before .before .before .before .before .before .taken .ensures), c .facility-meters .ensures, c .before .facility-asking .ensures, c .before .before .facility-three .ensures)
 
 pub facility-call-spec : {M : Type 1} → statement M
 facility-call-spec =
     tie.close
-    (tie.spec facility-three-requires facility-asking-requires facility-meters-requires returns)
+    (tie.spec taken-requires returns facility-three-requires facility-asking-requires facility-meters-requires returns-2)
