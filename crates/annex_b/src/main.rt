@@ -1,21 +1,25 @@
 // Runs the examples of Annex B and of 7.1, whole messages with them and damaged ones, through the reader and the writer. It
 // prints a line for each: a short name, what was found, and `ok`, or `differs` where the standard gives something else.
+mod annex_bodies;
+mod annex_case;
+mod annex_messages;
+
 fn main() {
-    annex_bodies::requests();
-    annex_bodies::answers();
-    annex_bodies::cut_short();
-    annex_bodies::damaged();
-    annex_bodies::others();
-    annex_bodies::unknown();
-    annex_bodies::requests_written();
-    annex_bodies::answers_written();
-    annex_messages::calls();
-    annex_messages::answers();
-    annex_messages::faults();
-    annex_messages::longest();
-    annex_messages::counted();
-    annex_messages::first_ones();
-    annex_messages::refused();
-    annex_messages::out_of_range();
-    annex_messages::no_room();
+    crate::annex_bodies::requests();
+    crate::annex_bodies::answers();
+    crate::annex_bodies::cut_short();
+    crate::annex_bodies::damaged();
+    crate::annex_bodies::others();
+    crate::annex_bodies::unknown();
+    crate::annex_bodies::requests_written();
+    crate::annex_bodies::answers_written();
+    crate::annex_messages::calls();
+    crate::annex_messages::answers();
+    crate::annex_messages::faults();
+    crate::annex_messages::longest();
+    crate::annex_messages::counted();
+    crate::annex_messages::first_ones();
+    crate::annex_messages::refused();
+    crate::annex_messages::out_of_range();
+    crate::annex_messages::no_room();
 }

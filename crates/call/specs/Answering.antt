@@ -2,26 +2,25 @@
 use Prim.Native.Nat.{ℕ}
 use mathlib.Core.List.{List}
 use mathlib.Core.Bool.{true, false, not}
-use Rattle.causes.specs.declared.Cause.{Cause}
-use Rattle.carriage.specs.declared.Seen.{Seen}
-use Rattle.standing.specs.declared.Answers.{Answers}
-use Rattle.fates.specs.declared.Fates.{Fates}
-use Rattle.numbers.specs.declared.Answer.{Answer}
-use Rattle.kinds.specs.declared.Kind.{Kind}
+use Rattle.cause.specs.declared.Cause.{Cause}
+use Rattle.user_element.specs.declared.Seen.{Seen}
+use Rattle.services.specs.declared.Answers.{Answers}
+use Rattle.answering_rules.specs.declared.Fates.{Fates}
+use Rattle.answer.specs.declared.Answer.{Answer}
+use Rattle.message_types.specs.declared.Kind.{Kind}
 use Rattle.sent.specs.declared.Sent.{Sent}
 use Rattle.phases.specs.declared.Phase.{Phase}
 use Rattle.call.specs.declared.Call.{Call}
 use Rattle.call.specs.declared.reply.Reply.{Reply}
-use Rattle.standing.specs.Standing.{inForceOf}
-use Rattle.fates.specs.Fates.{alertingFatesOf, connectFatesOf}
-use Rattle.consequences.specs.Consequences.{failedOf, settlesOf, tellsOf, declinesOf}
-use Rattle.causes.specs.Cause.{cleared}
-use Rattle.carriage.specs.Element.{seenOf, notedOf, goesOutOf}
+use Rattle.services.specs.Standing.{inForceOf}
+use Rattle.answering_rules.specs.Fates.{alertingFatesOf, connectFatesOf}
+use Rattle.answering_rules.specs.Consequences.{failedOf, settlesOf, tellsOf, declinesOf, inForceAfterOf}
+use Rattle.cause.specs.Cause.{cleared}
+use Rattle.user_element.specs.Element.{seenOf, notedOf, goesOutOf}
 use Rattle.sent.specs.Message.{sayingOf, bareOf}
 use Rattle.phases.specs.Phase.{requestedOf, connectableOf}
 use Rattle.call.specs.Sound.{inPhaseOf}
 use Rattle.call.specs.Reply.{barOf, heardOf}
-use Rattle.meters.specs.Meters.{inForceAfterOf}
 
 -- the record in its next phase, with what the answers made of the services
 unfoldable pub answeredCallOf : Call → Phase → Fates → Call

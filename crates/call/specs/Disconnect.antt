@@ -3,22 +3,22 @@ use Prim.Native.Nat.{ℕ}
 use mathlib.Core.List.{List}
 use mathlib.Core.Bool.{true}
 use lib.Dec.{leb}
-use Rattle.causes.specs.declared.Cause.{Cause}
-use Rattle.carriage.specs.declared.Note.{Note}
-use Rattle.carriage.specs.declared.Seen.{Seen}
-use Rattle.standing.specs.declared.Answers.{Answers}
-use Rattle.standing.specs.declared.Standing.{Standing}
-use Rattle.numbers.specs.declared.Answer.{Answer}
-use Rattle.kinds.specs.declared.Kind.{Kind}
+use Rattle.cause.specs.declared.Cause.{Cause}
+use Rattle.user_element.specs.declared.Note.{Note}
+use Rattle.user_element.specs.declared.Seen.{Seen}
+use Rattle.services.specs.declared.Answers.{Answers}
+use Rattle.services.specs.declared.Standing.{Standing}
+use Rattle.answer.specs.declared.Answer.{Answer}
+use Rattle.message_types.specs.declared.Kind.{Kind}
 use Rattle.sent.specs.declared.Sent.{Sent}
 use Rattle.phases.specs.declared.Phase.{Phase}
-use Rattle.sides.specs.declared.Side.{Side}
+use Rattle.sent.specs.declared.side.Side.{Side}
 use Rattle.call.specs.declared.Call.{Call}
 use Rattle.call.specs.declared.reply.Reply.{Reply}
-use Rattle.standing.specs.Standing.{inForceOf}
-use Rattle.closing.specs.Closing.{closingStandingOf, heardAnswersOf, closingFacilitiesOf}
-use Rattle.causes.specs.Cause.{greatestCause}
-use Rattle.carriage.specs.Element.{seenOf, notedOf, goesOutOf}
+use Rattle.services.specs.Standing.{inForceOf}
+use Rattle.clearing_rules.specs.Closing.{closingStandingOf, heardAnswersOf, closingFacilitiesOf}
+use Rattle.cause.specs.Cause.{greatestCause}
+use Rattle.user_element.specs.Element.{seenOf, notedOf, goesOutOf}
 use Rattle.sent.specs.Message.{sayingOf, bareOf}
 use Rattle.phases.specs.Phase.{upOf, liveOf}
 use Rattle.call.specs.Sound.{inPhaseOf}

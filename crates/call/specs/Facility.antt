@@ -1,17 +1,16 @@
 -- FACILITY: service 3 while connected.
 use mathlib.Core.Bool.{true, cond}
-use Rattle.carriage.specs.declared.Note.{Note}
-use Rattle.numbers.specs.declared.Answer.{Answer}
-use Rattle.asking.specs.declared.What.{What}
-use Rattle.sides.specs.declared.Side.{Side}
+use Rattle.user_element.specs.declared.Note.{Note}
+use Rattle.answer.specs.declared.Answer.{Answer}
+use Rattle.facility_rules.specs.declared.What.{What}
+use Rattle.sent.specs.declared.side.Side.{Side}
 use Rattle.call.specs.declared.Call.{Call}
 use Rattle.call.specs.declared.reply.Reply.{Reply}
-use Rattle.standing.specs.Standing.{inForceOf}
-use Rattle.asking.specs.Asking.{verdictOf, facilityAskingOf, facilityThreeOf}
-use Rattle.telling.specs.Telling.{toAskerOf, toOtherOf}
-use Rattle.numbers.specs.Answer.{takenOf}
+use Rattle.services.specs.Standing.{inForceOf}
+use Rattle.facility_rules.specs.Asking.{verdictOf, facilityAskingOf, facilityThreeOf, facilityMetersOf}
+use Rattle.facility_rules.specs.Telling.{toAskerOf, toOtherOf}
+use Rattle.answer.specs.Answer.{takenOf}
 use Rattle.phases.specs.Phase.{activeOf}
-use Rattle.meters.specs.Meters.{facilityMetersOf}
 use Rattle.call.specs.Reply.{barOf, heardOf, replyOf}
 
 unfoldable pub facilityVerdictOf : Call → Side → What → Answer

@@ -2,21 +2,21 @@
 use Prim.Native.Nat.{ℕ}
 use mathlib.Core.List.{List}
 use mathlib.Core.Bool.{Bool, true, cond}
-use Rattle.meter.specs.declared.Passage.{Passage}
-use Rattle.carriage.specs.declared.Note.{Note}
-use Rattle.carriage.specs.declared.Seen.{Seen}
-use Rattle.numbers.specs.declared.Answer.{Answer}
-use Rattle.sides.specs.declared.Side.{Side}
+use Rattle.flow_meter.specs.declared.passage.Passage.{Passage}
+use Rattle.user_element.specs.declared.Note.{Note}
+use Rattle.user_element.specs.declared.Seen.{Seen}
+use Rattle.answer.specs.declared.Answer.{Answer}
+use Rattle.sent.specs.declared.side.Side.{Side}
 use Rattle.call.specs.declared.Call.{Call}
-use Rattle.meters.specs.declared.Meters.{Meters}
+use Rattle.flow_meter.specs.declared.call_meters.Meters.{Meters}
 use Rattle.call.specs.declared.reply.Reply.{Reply}
-use Rattle.standing.specs.Standing.{inForceOf}
-use Rattle.carriage.specs.Element.{seenOf, wholeOf, notedOf}
+use Rattle.services.specs.Standing.{inForceOf}
+use Rattle.user_element.specs.Element.{seenOf, wholeOf, notedOf}
 use Rattle.phases.specs.Phase.{talkingOf}
-use Rattle.serving.specs.Serving.{servedOf}
-use Rattle.passing.specs.Passing.{passageAnswerOf, toSenderOf, toReceiverOf}
+use Rattle.information_rules.specs.Serving.{servedOf}
+use Rattle.information_rules.specs.Passing.{passageAnswerOf, toSenderOf, toReceiverOf}
 use Rattle.call.specs.Reply.{barOf, refusedOf, heardOf, replyOf}
-use Rattle.meters.specs.Meters.{meterOf, spentOf}
+use Rattle.flow_meter.specs.Meters.{meterOf, spentOf}
 
 -- the record with other meters
 unfoldable pub metersOf : Call → Meters → Call

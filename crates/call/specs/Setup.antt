@@ -2,20 +2,20 @@
 use Prim.Native.Nat.{ℕ}
 use mathlib.Core.List.{List}
 use mathlib.Core.Bool.{_&&_}
-use Rattle.carriage.specs.declared.Seen.{Seen}
+use Rattle.user_element.specs.declared.Seen.{Seen}
 use Rattle.rights.specs.declared.Rights.{Rights}
-use Rattle.standing.specs.declared.Requests.{Requests}
-use Rattle.standing.specs.declared.Standings.{Standings}
-use Rattle.numbers.specs.declared.Answer.{Answer}
+use Rattle.services.specs.declared.Requests.{Requests}
+use Rattle.services.specs.declared.Standings.{Standings}
+use Rattle.answer.specs.declared.Answer.{Answer}
 use Rattle.phases.specs.declared.Phase.{Phase}
 use Rattle.call.specs.declared.Call.{Call}
 use Rattle.call.specs.declared.reply.Reply.{Reply}
 use Rattle.rights.specs.Rights.{rightsFitOf, referenceFitsOf}
-use Rattle.requests.specs.Requests.{openingOf}
-use Rattle.carriage.specs.Element.{seenOf}
-use Rattle.asking.specs.Asking.{nobodyAsks}
+use Rattle.setup_rules.specs.Requests.{openingOf}
+use Rattle.user_element.specs.Element.{seenOf}
+use Rattle.facility_rules.specs.Asking.{nobodyAsks}
 use Rattle.phases.specs.Phase.{freshOf}
-use Rattle.meters.specs.Meters.{emptyMeters}
+use Rattle.flow_meter.specs.Meters.{emptyMeters}
 use Rattle.call.specs.Reply.{barOf, heardOf}
 
 -- "SETUP fills the whole record, used for one call."

@@ -1,12 +1,16 @@
 -- A fresh record, and number 25 for one record.
-use mathlib.Core.Bool.{Bool, true, cond}
+use Prim.Native.Nat.{ℕ}
+use mathlib.Core.Bool.{Bool, true, cond, _&&_}
 use Rattle.phases.specs.declared.Phase.{Phase}
 use Rattle.call.specs.declared.Call.{Call}
-use Rattle.rights.specs.Rights.{noRights}
-use Rattle.asking.specs.Asking.{nobodyAsks}
+use Rattle.rights.specs.declared.Rights.{Rights}
+use Rattle.rights.specs.Rights.{noRights, rightsFitOf, referenceFitsOf}
+use Rattle.facility_rules.specs.Asking.{nobodyAsks}
 use Rattle.phases.specs.Phase.{liveOf}
-use Rattle.meters.specs.Meters.{emptyMeters, rangesFit}
-use Rattle.standing.specs.Standing.{noServices}
+use Rattle.flow_meter.specs.Meter.{meterFitsOf}
+use Rattle.flow_meter.specs.declared.call_meters.Meters.{Meters}
+use Rattle.flow_meter.specs.Meters.{emptyMeters}
+use Rattle.services.specs.Standing.{noServices}
 
 -- a record before its SETUP
 unfoldable pub freshCall : Call
@@ -19,6 +23,12 @@ freshCall =
       asking = nobodyAsks;
       meters = emptyMeters;
     }
+
+-- "a live record or meter with a field out of range, credit over X or count over 2"
+abbrev pub rangesFit : ℕ → Rights → Meters → Bool
+rangesFit reference rights m =
+    ((referenceFitsOf reference && rightsFitOf rights) && meterFitsOf (m .calling) (rights .burst))
+    && meterFitsOf (m .called) (rights .burst)
 
 -- what a live record holds is in range
 unfoldable pub fieldsFitOf : Call → Bool

@@ -1,15 +1,15 @@
 -- The tick.
 use mathlib.Core.Bool.{Bool, true}
-use Rattle.carriage.specs.declared.Note.{Note}
-use Rattle.numbers.specs.declared.Answer.{Answer}
+use Rattle.user_element.specs.declared.Note.{Note}
+use Rattle.answer.specs.declared.Answer.{Answer}
 use Rattle.call.specs.declared.Call.{Call}
 use Rattle.call.specs.declared.reply.Reply.{Reply}
-use Rattle.standing.specs.Standing.{inForceOf}
+use Rattle.services.specs.Standing.{inForceOf}
 use Rattle.phases.specs.Phase.{liveOf}
-use Rattle.serving.specs.Serving.{servesThreeOf}
+use Rattle.information_rules.specs.Serving.{servesThreeOf}
 use Rattle.call.specs.Information.{metersOf}
 use Rattle.call.specs.Reply.{barOf, heardOf}
-use Rattle.ticking.specs.Ticking.{refillsOf, readyOf}
+use Rattle.flow_meter.specs.Ticking.{refillsOf, readyOf}
 
 -- service 3 in force in Active
 unfoldable pub runsOf : Call → Bool

@@ -1,26 +1,26 @@
 // FACILITY: service 3 asked for, accepted or rejected while connected.
 ghost use mathlib.Core.Path.{_≡_};
 ghost use mathlib.Core.Bool.{cond};
-ghost use Rattle.numbers.specs.Answer.{takenOf};
+ghost use Rattle.answer.specs.Answer.{takenOf};
 ghost use Rattle.call.specs.Facility.{facilityVerdictOf, facilityCallOf, passesFacilityOf, facilityOf};
 use crate::Call;
 use crate::reply::Reply;
 use crate::reply::heard;
 use crate::reply::reply_to;
-use asking::What;
-use asking::facility_asking;
-use asking::facility_three;
-use asking::verdict;
-use carriage::Note;
-use meters::facility_meters;
-use numbers::Answer;
-use numbers::taken;
+use answer::Answer;
+use answer::taken;
+use facility_rules::What;
+use facility_rules::facility_asking;
+use facility_rules::facility_meters;
+use facility_rules::facility_three;
+use facility_rules::messages::to_asker;
+use facility_rules::messages::to_other;
+use facility_rules::verdict;
 use phases::is_active;
-use sides::Side;
-use standing::Standings;
-use standing::in_force;
-use telling::to_asker;
-use telling::to_other;
+use sent::side::Side;
+use services::Standings;
+use services::in_force;
+use user_element::Note;
 
 // A refusal leaves the record as it was.
 fn facility_call(c: Call, side: Side, what: What, answer: Answer) -> Call

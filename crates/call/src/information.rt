@@ -6,22 +6,22 @@ use crate::reply::Reply;
 use crate::reply::heard;
 use crate::reply::refused;
 use crate::reply::reply_to;
-use carriage::Note;
-use carriage::Seen;
-use carriage::look;
-use carriage::noted;
-use carriage::whole;
-use meters::Meters;
-use meters::meter_of;
-use meters::spent;
-use numbers::Answer;
-use passing::passage_answer;
-use passing::to_receiver;
-use passing::to_sender;
+use answer::Answer;
+use flow_meter::call_meters::Meters;
+use flow_meter::call_meters::meter_of;
+use flow_meter::call_meters::spent;
+use information_rules::messages::passage_answer;
+use information_rules::messages::to_receiver;
+use information_rules::messages::to_sender;
+use information_rules::served;
 use phases::is_talking;
-use serving::served;
-use sides::Side;
-use standing::in_force;
+use sent::side::Side;
+use services::in_force;
+use user_element::Note;
+use user_element::Seen;
+use user_element::look;
+use user_element::noted;
+use user_element::whole;
 
 pub(crate) fn with_meters(mut c: Call, m: Meters) -> Call
     ensures { λ r. ⌜ r ≡ metersOf c m ⌝ }

@@ -1,9 +1,9 @@
 // One call: its record, the events that it takes, and the replies.
-use asking::Asking;
-use meters::Meters;
+use facility_rules::Asking;
+use flow_meter::call_meters::Meters;
 use phases::Phase;
 use rights::Rights;
-use standing::Standings;
+use services::Standings;
 
 pub mod answering;
 pub mod disconnect;

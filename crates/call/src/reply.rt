@@ -1,14 +1,13 @@
 // Replies, and the tests that come first.
 ghost use mathlib.Core.Path.{_≡_};
-ghost use Rattle.call.specs.Reply.{barOf, refusedOf, heardOf, replyOf};
+ghost use Rattle.call.specs.Reply.{barOf, refusedOf, heardOf, pickOf, replyOf};
 use crate::Call;
-use carriage::Note;
-use numbers::Answer;
-use numbers::first_bar;
-use numbers::taken;
+use answer::Answer;
+use answer::first_bar;
+use answer::taken;
 use sent::Sent;
-use sides::Side;
-use sides::pick;
+use sent::side::Side;
+use user_element::Note;
 
 // calling and called: what is sent to the calling and to the called user.
 pub struct Reply {
@@ -41,6 +40,15 @@ pub(crate) fn heard(c: Call, allowed: bool, ranged: bool, r: Reply) -> Reply
         r
     } else {
         refused(c, bar, Note::Clear)
+    }
+}
+
+fn pick(side: Side, calling: Sent, called: Sent) -> Sent
+    ensures { λ r. ⌜ r ≡ pickOf side calling called ⌝ }
+{
+    match side {
+        Side::Calling => calling,
+        Side::Called => called,
     }
 }
 

@@ -4,17 +4,17 @@ ghost use Rattle.call.specs.Setup.{proceedsOf, setupOf};
 use crate::Call;
 use crate::reply::Reply;
 use crate::reply::heard;
-use asking::nobody_asks;
-use carriage::Seen;
-use carriage::look;
-use meters::empty_meters;
-use numbers::Answer;
+use answer::Answer;
+use facility_rules::nobody_asks;
+use flow_meter::call_meters::empty_meters;
 use phases::is_fresh;
-use requests::opens;
 use rights::Rights;
 use rights::reference_fits;
 use rights::rights_fit;
-use standing::Requests;
+use services::Requests;
+use setup_rules::opens;
+use user_element::Seen;
+use user_element::look;
 
 fn proceeds(reference: u16, rights: Rights, requests: Requests, seen: Seen) -> Reply
     ensures { λ r. ⌜ r ≡ proceedsOf reference rights requests seen ⌝ }

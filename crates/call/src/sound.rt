@@ -1,15 +1,19 @@
 // A fresh record, whether a record is live, and whether a live record is sound.
 ghost use mathlib.Core.Path.{_≡_};
-ghost use Rattle.call.specs.Sound.{inPhaseOf, freshCall, soundOf};
+ghost use Rattle.call.specs.Sound.{inPhaseOf, rangesFit, freshCall, soundOf};
 ghost use Rattle.phases.specs.Phase.{liveOf};
 use crate::Call;
-use asking::nobody_asks;
-use meters::empty_meters;
-use meters::ranges_fit;
+use facility_rules::nobody_asks;
+use flow_meter::call_meters::Meters;
+use flow_meter::call_meters::empty_meters;
+use flow_meter::meter_fits;
 use phases::Phase;
 use phases::is_live;
+use rights::Rights;
 use rights::no_rights;
-use standing::no_services;
+use rights::reference_fits;
+use rights::rights_fit;
+use services::no_services;
 
 // The record keeps what it had: only its phase changes.
 pub(crate) fn in_phase(c: Call, p: Phase) -> Call
@@ -27,6 +31,16 @@ pub(crate) fn in_phase(c: Call, p: Phase) -> Call
         asking: asking,
         meters: meters,
     }
+}
+
+// Whether what a live record holds is in range, both meters included.
+fn ranges_fit(reference: u16, rights: Rights, m: Meters) -> bool
+    ensures { λ r. ⌜ r ≡ rangesFit reference rights m ⌝ }
+{
+    reference_fits(reference)
+        & rights_fit(rights)
+        & meter_fits(m.calling, rights.burst)
+        & meter_fits(m.called, rights.burst)
 }
 
 impl Call {

@@ -4,9 +4,9 @@ ghost use Rattle.call.specs.Step.{notAnEventOf, stepOf};
 use crate::Call;
 use crate::reply::Reply;
 use crate::reply::refused;
-use carriage::Note;
-use events::Event;
-use numbers::Answer;
+use answer::Answer;
+use event::Event;
+use user_element::Note;
 
 impl Call {
     // CALL PROCEEDING is the box's own message and no event.

@@ -5,13 +5,13 @@ use crate::Call;
 use crate::information::with_meters;
 use crate::reply::Reply;
 use crate::reply::heard;
-use carriage::Note;
-use numbers::Answer;
+use answer::Answer;
+use flow_meter::call_meters::ready;
+use flow_meter::call_meters::refills;
+use information_rules::serves_three;
 use phases::is_live;
-use serving::serves_three;
-use standing::in_force;
-use ticking::ready;
-use ticking::refills;
+use services::in_force;
+use user_element::Note;
 
 fn passes_tick(c: Call) -> Reply
     ensures { λ r. ⌜ r ≡ passesTickOf c ⌝ }

@@ -7,38 +7,38 @@ use native.Mathlib.Omega.{arith}
 use borrow.Author.Tests.{ltb-true, ltb-false}
 use lib.Dec.{ltb, leb, eqb}
 use lib.ListN.{length, getD, drop, length-append}
-use Rattle.causes.specs.declared.Cause.{Cause}
-use Rattle.component.specs.declared.facility.Wish.{Wish}
-use Rattle.component.specs.declared.facility.Refusal.{Refusal}
-use Rattle.component.specs.declared.facility.Component.{Component}
-use Rattle.component.specs.declared.facility.Facility.{Facility}
-use Rattle.cause.specs.Cause.{causeOf}
-use Rattle.component.specs.Facility.{invokeNumber}
-use Rattle.forms.specs.Forms.{Slot, serviceOf, wishOf, refusalOf, invokeSays, errorSays, readAs, invokeForm, resultForm, errorForm, invokeOf, resultOf, errorOf, or, facilityOf, spells}
-use Rattle.kinds.specs.declared.Typed.{Typed}
-use Rattle.fields.specs.declared.Width.{Width}
-use Rattle.fields.specs.declared.Single.{Single}
-use Rattle.fields.specs.declared.Facilities.{Facilities}
-use Rattle.fields.specs.declared.Header.{Header}
-use Rattle.fields.specs.declared.Place.{Place}
-use Rattle.elements.specs.declared.Reading.{Reading}
-use Rattle.elements.specs.declared.Read.{Read}
-use Rattle.kinds.specs.Kind.{kindOf}
+use Rattle.cause.specs.declared.Cause.{Cause}
+use Rattle.facility.specs.declared.Wish.{Wish}
+use Rattle.facility.specs.declared.Refusal.{Refusal}
+use Rattle.facility.specs.declared.Component.{Component}
+use Rattle.facility.specs.declared.Facility.{Facility}
+use Rattle.cause.specs.Element.{causeOf}
+use Rattle.facility.specs.Facility.{invokeNumber}
+use Rattle.facility.specs.Forms.{Slot, serviceOf, wishOf, refusalOf, invokeSays, errorSays, readAs, invokeForm, resultForm, errorForm, invokeOf, resultOf, errorOf, or, facilityOf, spells}
+use Rattle.message_types.specs.declared.Typed.{Typed}
+use Rattle.message_fields.specs.declared.Width.{Width}
+use Rattle.message_fields.specs.declared.Single.{Single}
+use Rattle.message_fields.specs.declared.Facilities.{Facilities}
+use Rattle.message_fields.specs.declared.Header.{Header}
+use Rattle.message_fields.specs.declared.Place.{Place}
+use Rattle.message_fields.specs.declared.Reading.{Reading}
+use Rattle.message_fields.specs.declared.Read.{Read}
+use Rattle.message_types.specs.Kind.{kindOf}
 use Rattle.elements.specs.Elements.{Element, Split, cut, whole, elements, counted}
 use Rattle.elements.specs.Meaning.{firstCause, andSays, components, firstThree, readingOf, takenOf}
 use Rattle.message.specs.Reading.{widthOf, referenceOf, typedOf, headedOf, readOf}
-use Rattle.parts.specs.Parts.{placeIn}
-use Rattle.octets.specs.Promises.{CauseIn, FacilitiesIn}
-use Rattle.octets.proofs.Promises.{element}
+use Rattle.message.specs.Parts.{placeIn}
+use Rattle.octet_promises.specs.Promises.{CauseIn, FacilitiesIn}
+use Rattle.octet_promises.proofs.Promises.{element}
 use Rattle.text.specs.Decimal.{decimalOf}
 use Rattle.text.proofs.Digits.{at-most}
 use Rattle.text.specs.Columns.{column}
-use Rattle.facilities.specs.Column.{componentText, facilityColumn}
-use Rattle.line.specs.Columns.{causeColumn, singleColumn, elementColumn, headColumns, takenColumns, columnsOf}
-use Rattle.line.specs.Line.{lineWith, lineOf}
-use Rattle.line.proofs.Words.{taken-text, refused-text}
+use Rattle.message_line.specs.Column.{componentText, facilityColumn}
+use Rattle.message_line.specs.Columns.{causeColumn, singleColumn, elementColumn, headColumns, takenColumns, columnsOf}
+use Rattle.message_line.specs.Line.{lineWith, lineOf}
+use Rattle.message_line.proofs.Words.{taken-text, refused-text}
 use Rattle.capture.specs.Promises.{Octets, Bounded}
-use Rattle.decide.proofs.Decide.{by-cond}
+use Rattle.logic.proofs.Decide.{by-cond}
 
 -- the Cause
 body-cause : (b : List ℕ) → CauseIn (causeOf b)

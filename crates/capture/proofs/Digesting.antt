@@ -7,14 +7,14 @@ use native.Mathlib.Omega.{arith}
 use borrow.Author.Tests.{le-leb, lt-leb}
 use lib.ListN.{length, getD, take, drop, length-append, length-drop}
 use lib.Seq.{length-take-le, drop-drop, getD-drop}
-use Rattle.room.specs.declared.Bar.{Bar}
-use Rattle.room.specs.declared.Wrote.{Wrote}
-use Rattle.room.specs.Room.{placed, Written}
-use Rattle.room.proofs.Pieces.{length-placed, placed-then}
+use Rattle.memory.specs.declared.Bar.{Bar}
+use Rattle.memory.specs.declared.Wrote.{Wrote}
+use Rattle.memory.specs.Room.{placed, Written}
+use Rattle.memory.proofs.Pieces.{length-placed, placed-then}
 use Rattle.text.proofs.Pieced.{took, refused, no-piece}
-use Rattle.line.specs.Line.{lineOf}
+use Rattle.message_line.specs.Line.{lineOf}
 use Rattle.capture.specs.Frames.{Frame, sizeOf, framesOf, lineAt, linesOf, fitting, spanOf, workedOff, Digested}
-use Rattle.margins.specs.Margins.{laterOf}
+use Rattle.capture.specs.Margins.{laterOf}
 use Rattle.capture.proofs.Framing.{firstOf, frames-turn, frames-end, later-later, later-none}
 
 -- what is still to come from place i of the piece on, with k octets of lines written

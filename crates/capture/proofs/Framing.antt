@@ -6,9 +6,9 @@ use native.Mathlib.Omega.{arith}
 use borrow.Author.Tests.{le-leb, lt-leb}
 use lib.Dec.{leb}
 use lib.ListN.{length, take, drop, length-drop}
-use Rattle.decide.proofs.Decide.{by-cond}
+use Rattle.logic.proofs.Decide.{by-cond}
 use Rattle.capture.specs.Frames.{Frame, sizeOf, framesIn, framesOf}
-use Rattle.margins.specs.Margins.{laterOf}
+use Rattle.capture.specs.Margins.{laterOf}
 
 -- the first message of a piece
 abbrev pub firstOf : ℕ → List ℕ → Frame

@@ -8,9 +8,9 @@ use lib.Dec.{leb}
 use lib.ListN.{length, drop, length-append, length-drop, List·getD-append}
 use lib.Seq.{length-take-le, drop-drop, take-append-le, drop-append-le}
 use Rattle.capture.specs.Frames.{Frame, sizeOf, framesIn, framesOf, lineAt, fitting, spanOf}
-use Rattle.margins.specs.Margins.{laterOf}
+use Rattle.capture.specs.Margins.{laterOf}
 use Rattle.capture.specs.Promises.{Offset}
-use Rattle.decide.proofs.Decide.{by-cond}
+use Rattle.logic.proofs.Decide.{by-cond}
 use Rattle.capture.proofs.Framing.{firstOf, frames-turn, later-later, later-none}
 
 pub record Front (c more : List ℕ) (offset : ℕ) (fs : List Frame) : Type 0 where

@@ -10,7 +10,7 @@ use lib.Dec.{ltb, leb}
 use lib.ListN.{length, take, drop, replicate, length-append, length-take, length-drop, List·getD-eq-default}
 use lib.Seq.{take-append-seam, drop-append-seam, drop-append-le, getD-take, getD-drop}
 use Rattle.capture.specs.Frames.{Frame, sizeOf, framesOf, lineAt, linesOf, fitting, spanOf, workedOff, printedOf}
-use Rattle.margins.specs.Margins.{laterOf}
+use Rattle.capture.specs.Margins.{laterOf}
 use Rattle.capture.specs.Promises.{Offset, GoesOn, endToEnd, octetsIn, LineEach, Octets, Run, WholeRun, Runs, Always}
 use Rattle.capture.proofs.Framing.{firstOf, frames-turn, frames-end}
 use Rattle.capture.proofs.Bounds.{bounded}

@@ -5,10 +5,10 @@ use mathlib.Core.Bool.{cond}
 use mathlib.Core.Path.{_≡_}
 use lib.ListN.{length, getD, take, drop}
 use lib.Dec.{leb}
-use Rattle.room.specs.Room.{placed}
+use Rattle.memory.specs.Room.{placed}
 use Rattle.capture.specs.declared.frames.Done.{Done}
-use Rattle.line.specs.Line.{lineOf}
-use Rattle.margins.specs.Margins.{laterOf, firstLine, lastLine}
+use Rattle.message_line.specs.Line.{lineOf}
+use Rattle.capture.specs.Margins.{laterOf, firstLine, lastLine}
 
 -- a message, and the offset of its first octet
 pub record Frame : Type 0 where

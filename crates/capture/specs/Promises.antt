@@ -3,9 +3,9 @@ use Prim.Native.Nat.{ℕ, _/_, _%_, _<_, _≤_}
 use mathlib.Core.List.{List, [], _∷_, _++_}
 use mathlib.Core.Path.{_≡_}
 use lib.ListN.{length, getD, drop}
-use Rattle.line.specs.Line.{lineOf}
+use Rattle.message_line.specs.Line.{lineOf}
 use Rattle.capture.specs.Frames.{Frame, framesOf, linesOf, spanOf, workedOff, printedOf}
-use Rattle.margins.specs.Margins.{laterOf, firstLine, lastLine}
+use Rattle.capture.specs.Margins.{laterOf, firstLine, lastLine}
 
 -- an offset of 64 bits
 abbrev pub Offset : ℕ → Type 0

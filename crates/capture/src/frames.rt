@@ -1,10 +1,10 @@
 // A capture: messages end to end, each after its length in two octets.
 ghost use Prim.Native.Nat.{_+_};
 ghost use Rattle.capture.specs.Frames.{Digested};
-use line::write_line;
-use margins::later;
-use margins::size_of;
-use room::Wrote;
+use crate::margins::later;
+use crate::margins::size_of;
+use memory::Wrote;
+use message_line::write_line;
 
 // How many octets of a piece of capture were used, and how many octets of lines were written.
 pub struct Done {

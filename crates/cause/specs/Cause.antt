@@ -1,23 +1,30 @@
--- The Cause element.
-use Prim.Native.Nat.{ℕ, _+_, _%_}
-use mathlib.Core.List.{List, [], _∷_}
-use mathlib.Core.Bool.{Bool, cond}
-use lib.ListN.{length, getD}
-use lib.Dec.{ltb, leb}
-use Rattle.causes.specs.declared.Cause.{Cause}
+-- Causes that the box gives itself.
+use Prim.Native.Nat.{ℕ}
+use Rattle.cause.specs.declared.Cause.{Cause}
 
--- "the low seven bits of the octet after the location octet and its extension, absent without that octet": a location octet
--- below 80 hexadecimal has an extension, one of 80 or more has none
-unfoldable pub causeOf : List ℕ → Cause
-causeOf b =
-    cond (ltb (length b) 2) Cause.Absent
-    (cond (leb 0x80 (getD b 0 0)) (Cause.Value (getD b 1 0 % 128))
-    (cond (ltb (length b) 3) Cause.Absent (Cause.Value (getD b 2 0 % 128))))
+-- "The caller's cause is 29 for an explicit rejection, 69 for none"
+abbrev pub rejected : ℕ
+rejected = 29
 
--- "Invoke numbers and causes are 0 to 127"
-abbrev pub causeFits : ℕ → Bool
-causeFits v = ltb v 128
+abbrev pub notAnswered : ℕ
+notAnswered = 69
 
--- "Cause is written 08 02 82 and 80 plus the value"
-abbrev pub causeOctets : ℕ → List ℕ
-causeOctets v = 0x08 ∷ 0x02 ∷ 0x82 ∷ (0x80 + v) ∷ []
+-- "and to the called user with cause 31"
+abbrev pub cleared : ℕ
+cleared = 31
+
+-- "not ready, cause 43, to its sender", and "ready, with cause 43 too"
+abbrev pub discarded : ℕ
+discarded = 43
+
+-- "RELEASE COMPLETE to the caller, cause 50"
+abbrev pub notSubscribed : ℕ
+notSubscribed = 50
+
+-- "DISCONNECT, cause over 127"
+abbrev pub greatestCause : ℕ
+greatestCause = 127
+
+abbrev pub firstOf : Cause → Cause → Cause
+firstOf Cause.Absent b = b
+firstOf (Cause.Value n) b = Cause.Value n

@@ -1,35 +1,32 @@
-// The Cause element: 08, its length, and a body with a location octet, perhaps an extension of it, and the value.
+// Causes: the values that the box gives, and the first of several. `element` has what a Cause element says.
 ghost use mathlib.Core.Path.{_≡_};
-ghost use Rattle.room.specs.Room.{Written};
-ghost use Rattle.cause.specs.Cause.{causeOf, causeFits, causeOctets};
-use causes::Cause;
-use room::Bar;
-use room::Wrote;
-use room::write_octets;
+ghost use Rattle.cause.specs.Cause.{firstOf};
 
-// What the body of a Cause element says.
-pub fn cause_in(body: &[u8]) -> Cause
-    ensures { λ r. ⌜ r ≡ causeOf (now (body .entry)) ⌝ }
-{
-    if body.len() < 2 {
-        return Cause::Absent;
-    }
-    if body[0] >= 0x80 {
-        return Cause::Value(body[1] % 128);
-    }
-    if body.len() < 3 {
-        return Cause::Absent;
-    }
-    Cause::Value(body[2] % 128)
+pub mod element;
+
+// The called user rejected a required service.
+pub const REJECTED: u8 = 29;
+// The called user is told that its own answers cleared the call.
+pub const CLEARED: u8 = 31;
+// A message was dropped for credit, and later: there is credit again.
+pub const DISCARDED: u8 = 43;
+// The rights lack a required service.
+pub const NOT_SUBSCRIBED: u8 = 50;
+// The called user gave no answer to a required service.
+pub const NOT_ANSWERED: u8 = 69;
+// The greatest value that a cause can have.
+pub const GREATEST_CAUSE: u8 = 127;
+
+pub enum Cause {
+    Absent,
+    Value(u8),
 }
 
-// Writes the whole element.
-pub fn write_cause(buf: &mut [u8], at: usize, value: u8) -> Wrote
-    ensures { λ r. ⌜ Written (causeFits value) at (causeOctets value) (now (buf .entry)) (now (buf .exit)) r ⌝ }
+pub fn first(a: Cause, b: Cause) -> Cause
+    ensures { λ r. ⌜ r ≡ firstOf a b ⌝ }
 {
-    if value >= 128 {
-        return Wrote::Refused(Bar::Range);
+    match a {
+        Cause::Absent => b,
+        Cause::Value(n) => Cause::Value(n),
     }
-    let element = [0x08, 0x02, 0x82, 128 + value];
-    write_octets(buf, at, &element)
 }

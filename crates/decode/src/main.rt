@@ -1,10 +1,10 @@
 // Prints a capture of messages, a line a message: standard input to standard output, in a fixed amount of memory. What a line
 // says is computed in `capture`; here octets are only read and written.
 use capture::frames::digest;
-use margins::later;
-use margins::write_first;
-use margins::write_last;
-use room::end_of;
+use capture::margins::later;
+use capture::margins::write_first;
+use capture::margins::write_last;
+use memory::end_of;
 use streams::fetch;
 use streams::held;
 use streams::send;

@@ -1,21 +1,21 @@
 // Runs cases of calls that are easy to get wrong, and a whole call with every service, and prints a line for each event:
 // its name, the answer, the note, and the type and cause of the message to the calling and to the called user.
-use asking::What;
+use answer::note_number;
+use answer::number;
 use call::Call;
 use call::reply::Reply;
-use causes::Cause;
-use events::Event;
-use kinds::kind_octet;
+use cause::Cause;
+use event::Event;
+use facility_rules::What;
 use libc::STDOUT_FILENO;
-use numerals::note_number;
-use numerals::number;
+use message_types::kind_octet;
 use rights::Rights;
 use sent::Sent;
-use sides::Side;
-use standing::Answers;
-use standing::Given;
-use standing::Request;
-use standing::Requests;
+use sent::side::Side;
+use services::Answers;
+use services::Given;
+use services::Request;
+use services::Requests;
 
 fn show_cause(c: Cause) {
     match c {

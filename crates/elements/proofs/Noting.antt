@@ -4,20 +4,20 @@ use mathlib.Core.List.{List, _∷_, _++_}
 use mathlib.Core.Path.{_≡_, refl}
 use borrow.Author.Tests.{ne-eqb}
 use lib.ListN.{length}
-use Rattle.causes.specs.declared.Cause.{Cause}
-use Rattle.component.specs.declared.facility.Component.{Component}
-use Rattle.component.specs.declared.facility.Facility.{Facility}
-use Rattle.cause.specs.Cause.{causeOf}
-use Rattle.forms.specs.Forms.{facilityOf}
-use Rattle.fields.specs.declared.Single.{Single}
-use Rattle.fields.specs.declared.Facilities.{Facilities}
-use Rattle.fields.specs.declared.Header.{Header}
-use Rattle.fields.specs.declared.Place.{Place}
-use Rattle.found.specs.declared.Seen.{Seen}
-use Rattle.found.specs.declared.Found.{Found}
+use Rattle.cause.specs.declared.Cause.{Cause}
+use Rattle.facility.specs.declared.Component.{Component}
+use Rattle.facility.specs.declared.Facility.{Facility}
+use Rattle.cause.specs.Element.{causeOf}
+use Rattle.facility.specs.Forms.{facilityOf}
+use Rattle.message_fields.specs.declared.Single.{Single}
+use Rattle.message_fields.specs.declared.Facilities.{Facilities}
+use Rattle.message_fields.specs.declared.Header.{Header}
+use Rattle.message_fields.specs.declared.Place.{Place}
+use Rattle.elements.specs.declared.so_far.Seen.{Seen}
+use Rattle.elements.specs.declared.so_far.Found.{Found}
 use Rattle.elements.specs.Elements.{Element}
-use Rattle.single.specs.Single.{singleOf, orSingle}
-use Rattle.found.specs.Found.{noteCause, oneMore, noteFacility, notePlace}
+use Rattle.elements.specs.Single.{singleOf, orSingle}
+use Rattle.elements.specs.Found.{noteCause, oneMore, noteFacility, notePlace}
 use Rattle.elements.specs.Meaning.{firstSingle, firstCause, firstPlace, andSays, components, firstThree}
 use Rattle.elements.specs.Scan.{causeThen, listed, placeThen, readingFrom, Adds}
 

@@ -7,19 +7,19 @@ use mathlib.Core.Path.{_≡_, refl, sym}
 use native.Mathlib.Omega.{arith}
 use borrow.Author.Tests.{le-leb, lt-leb}
 use lib.ListN.{length, getD, drop}
-use Rattle.causes.specs.declared.Cause.{Cause}
-use Rattle.fields.specs.declared.Single.{Single}
-use Rattle.fields.specs.declared.Facilities.{Facilities}
-use Rattle.fields.specs.declared.Header.{Header}
-use Rattle.fields.specs.declared.Place.{Place}
-use Rattle.found.specs.declared.Seen.{Seen}
-use Rattle.found.specs.declared.Found.{Found}
-use Rattle.elements.specs.declared.Fault.{Fault}
-use Rattle.elements.specs.declared.Read.{Read}
+use Rattle.cause.specs.declared.Cause.{Cause}
+use Rattle.message_fields.specs.declared.Single.{Single}
+use Rattle.message_fields.specs.declared.Facilities.{Facilities}
+use Rattle.message_fields.specs.declared.Header.{Header}
+use Rattle.message_fields.specs.declared.Place.{Place}
+use Rattle.elements.specs.declared.so_far.Seen.{Seen}
+use Rattle.elements.specs.declared.so_far.Found.{Found}
+use Rattle.message_fields.specs.declared.Fault.{Fault}
+use Rattle.message_fields.specs.declared.Read.{Read}
 use Rattle.elements.specs.declared.End.{End}
 use Rattle.elements.specs.Elements.{Element, Split, cut, whole, then, elements, isWhole, counted, between, Ended, Ends}
-use Rattle.single.specs.Single.{orSingle}
-use Rattle.found.specs.Found.{causeSeen}
+use Rattle.elements.specs.Single.{orSingle}
+use Rattle.elements.specs.Found.{causeSeen}
 use Rattle.elements.specs.Meaning.{firstSingle, firstCause, firstPlace, components, firstThree, readingOf, takenOf}
 use Rattle.elements.specs.Scan.{causeThen, listed, placeThen, readingFrom, Adds, takenWith}
 use Rattle.elements.proofs.Splitting.{none-left}

@@ -1,4 +1,5 @@
 pub mod Elements
 pub mod Meaning
 pub mod Scan
-pub mod Numbers
+pub mod Single
+pub mod Found

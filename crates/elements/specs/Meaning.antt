@@ -4,20 +4,20 @@ use mathlib.Core.List.{List, [], _∷_}
 use mathlib.Core.Bool.{false, cond}
 use lib.ListN.{length}
 use lib.Dec.{eqb}
-use Rattle.causes.specs.declared.Cause.{Cause}
-use Rattle.component.specs.declared.facility.Component.{Component}
-use Rattle.component.specs.declared.facility.Facility.{Facility}
-use Rattle.cause.specs.Cause.{causeOf}
-use Rattle.forms.specs.Forms.{facilityOf}
-use Rattle.kinds.specs.declared.Kind.{Kind}
-use Rattle.fields.specs.declared.Single.{Single}
-use Rattle.fields.specs.declared.Facilities.{Facilities}
-use Rattle.fields.specs.declared.Header.{Header}
-use Rattle.fields.specs.declared.Place.{Place}
-use Rattle.single.specs.Single.{orSingle, singleOf}
-use Rattle.elements.specs.declared.Reading.{Reading}
-use Rattle.elements.specs.declared.Fault.{Fault}
-use Rattle.elements.specs.declared.Read.{Read}
+use Rattle.cause.specs.declared.Cause.{Cause}
+use Rattle.facility.specs.declared.Component.{Component}
+use Rattle.facility.specs.declared.Facility.{Facility}
+use Rattle.cause.specs.Element.{causeOf}
+use Rattle.facility.specs.Forms.{facilityOf}
+use Rattle.message_types.specs.declared.Kind.{Kind}
+use Rattle.message_fields.specs.declared.Single.{Single}
+use Rattle.message_fields.specs.declared.Facilities.{Facilities}
+use Rattle.message_fields.specs.declared.Header.{Header}
+use Rattle.message_fields.specs.declared.Place.{Place}
+use Rattle.elements.specs.Single.{orSingle, singleOf}
+use Rattle.message_fields.specs.declared.Reading.{Reading}
+use Rattle.message_fields.specs.declared.Fault.{Fault}
+use Rattle.message_fields.specs.declared.Read.{Read}
 use Rattle.elements.specs.Elements.{Element, Split, cut, whole, counted}
 
 -- "The first Cause and level count."

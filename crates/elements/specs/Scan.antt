@@ -1,18 +1,18 @@
 -- What the scan carries along. Nobody has to believe this: the reader's contract does not cite it.
 use mathlib.Core.List.{List, [], _∷_, _++_}
 use mathlib.Core.Path.{_≡_}
-use Rattle.causes.specs.declared.Cause.{Cause}
-use Rattle.component.specs.declared.facility.Component.{Component}
-use Rattle.fields.specs.declared.Facilities.{Facilities}
-use Rattle.fields.specs.declared.Header.{Header}
-use Rattle.fields.specs.declared.Place.{Place}
-use Rattle.elements.specs.declared.Reading.{Reading}
-use Rattle.elements.specs.declared.Read.{Read}
-use Rattle.found.specs.declared.Seen.{Seen}
-use Rattle.found.specs.declared.Found.{Found}
+use Rattle.cause.specs.declared.Cause.{Cause}
+use Rattle.facility.specs.declared.Component.{Component}
+use Rattle.message_fields.specs.declared.Facilities.{Facilities}
+use Rattle.message_fields.specs.declared.Header.{Header}
+use Rattle.message_fields.specs.declared.Place.{Place}
+use Rattle.message_fields.specs.declared.Reading.{Reading}
+use Rattle.message_fields.specs.declared.Read.{Read}
+use Rattle.elements.specs.declared.so_far.Seen.{Seen}
+use Rattle.elements.specs.declared.so_far.Found.{Found}
 use Rattle.elements.specs.Elements.{Element}
-use Rattle.single.specs.Single.{orSingle}
-use Rattle.found.specs.Found.{causeSeen}
+use Rattle.elements.specs.Single.{orSingle}
+use Rattle.elements.specs.Found.{causeSeen}
 use Rattle.elements.specs.Meaning.{firstSingle, firstCause, firstPlace, components, firstThree}
 
 -- what was found before, and then the elements that are left

@@ -5,40 +5,26 @@ ghost use lib.ListN.{length, getD, drop};
 ghost use Rattle.elements.specs.Elements.{Ends, between, elements, isWhole};
 ghost use Rattle.elements.specs.Meaning.{takenOf};
 ghost use Rattle.elements.specs.Scan.{Adds, takenWith};
-use fields::Facilities;
-use fields::Header;
-use fields::Message;
-use fields::Place;
-use fields::Single;
-use forms::facility_in;
-use found::Found;
-use found::Seen;
-use found::cause_seen;
-use found::first_cause;
-use found::first_place;
-use found::with_facility;
-use single::first_single;
-use single::single_in;
+use crate::single::first_single;
+use crate::single::single_in;
+use crate::so_far::Found;
+use crate::so_far::Seen;
+use crate::so_far::cause_seen;
+use crate::so_far::first_cause;
+use crate::so_far::first_place;
+use crate::so_far::with_facility;
+use facility::forms::facility_in;
+use message_fields::Facilities;
+use message_fields::Fault;
+use message_fields::Header;
+use message_fields::Message;
+use message_fields::Place;
+use message_fields::Read;
+use message_fields::Reading;
+use message_fields::Single;
 
-pub struct Reading {
-    pub message: Message,
-    pub user: Place,
-}
-
-// Why a message is refused: it ends too early, is too long, begins with another protocol's octet, or has a reference length or
-// a type that is none of ours.
-pub enum Fault {
-    Short,
-    TooLong,
-    Foreign,
-    Reference,
-    Kind,
-}
-
-pub enum Read {
-    Taken(Reading),
-    Refused(Fault),
-}
+mod single;
+pub mod so_far;
 
 // Where the element at a place ends, if it does.
 enum End {

@@ -1,4 +1,4 @@
 // Explains a trace: the lines of `replay`, and what the messages of each record say.
 fn main() {
-    play::run(true);
+    trace_program::run(true);
 }

@@ -4,12 +4,12 @@ use mathlib.Core.List.{List}
 use mathlib.Core.Path.{_≡_, sym, ap, _∙_}
 use borrow.Author.Tests.{lt-ltb, le-ltb}
 use lib.ListN.{length, getD, drop}
-use Rattle.kinds.specs.declared.Kind.{Kind}
-use Rattle.kinds.specs.declared.Typed.{Typed}
-use Rattle.fields.specs.declared.Width.{Width}
-use Rattle.elements.specs.declared.Fault.{Fault}
-use Rattle.elements.specs.declared.Read.{Read}
-use Rattle.kinds.specs.Kind.{kindOf}
+use Rattle.message_types.specs.declared.Kind.{Kind}
+use Rattle.message_types.specs.declared.Typed.{Typed}
+use Rattle.message_fields.specs.declared.Width.{Width}
+use Rattle.message_fields.specs.declared.Fault.{Fault}
+use Rattle.message_fields.specs.declared.Read.{Read}
+use Rattle.message_types.specs.Kind.{kindOf}
 use Rattle.elements.specs.Elements.{elements}
 use Rattle.elements.specs.Meaning.{takenOf}
 use Rattle.message.specs.Reading.{widthOf, headerOf, typedOf, headedOf}

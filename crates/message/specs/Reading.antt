@@ -4,13 +4,13 @@ use mathlib.Core.List.{List}
 use mathlib.Core.Bool.{cond}
 use lib.ListN.{length, getD, drop}
 use lib.Dec.{ltb, leb, eqb}
-use Rattle.kinds.specs.declared.Kind.{Kind}
-use Rattle.kinds.specs.declared.Typed.{Typed}
-use Rattle.fields.specs.declared.Width.{Width}
-use Rattle.fields.specs.declared.Header.{Header}
-use Rattle.kinds.specs.Kind.{kindOf}
-use Rattle.elements.specs.declared.Fault.{Fault}
-use Rattle.elements.specs.declared.Read.{Read}
+use Rattle.message_types.specs.declared.Kind.{Kind}
+use Rattle.message_types.specs.declared.Typed.{Typed}
+use Rattle.message_fields.specs.declared.Width.{Width}
+use Rattle.message_fields.specs.declared.Header.{Header}
+use Rattle.message_types.specs.Kind.{kindOf}
+use Rattle.message_fields.specs.declared.Fault.{Fault}
+use Rattle.message_fields.specs.declared.Read.{Read}
 use Rattle.elements.specs.Elements.{elements}
 use Rattle.elements.specs.Meaning.{takenOf}
 

@@ -5,8 +5,8 @@ use mathlib.Core.Bool.{true, false}
 use mathlib.Core.Path.{_≡_, refl}
 use denote.Enum.Declared.{tagOf}
 use types.Run.{OneOf, miss}
-use Rattle.events.specs.declared.Event.{Event}
-use Rattle.events.proofs.Event.{the-type}
+use Rattle.event.specs.declared.Event.{Event}
+use Rattle.event.proofs.Event.{the-type}
 use Rattle.recorder.specs.Writing.{fieldedOf, eventFitsOf}
 
 pub with-field : (e : Event) → OneOf (0 ∷ 1 ∷ 2 ∷ 3 ∷ 5 ∷ []) (tagOf the-type e) → true ≡ fieldedOf e

@@ -8,12 +8,12 @@ use native.Mathlib.Numerals.{one-add}
 use native.Mathlib.Omega.{arith}
 use lib.ListN.{length, take, drop, set, replicate, length-append}
 use lib.Seq.{take-append-le, take-at, take-take, length-take-le}
-use Rattle.events.specs.declared.Event.{Event}
+use Rattle.event.specs.declared.Event.{Event}
 use Rattle.recorder.specs.declared.Head.{Head}
-use Rattle.room.specs.declared.Wrote.{Wrote}
-use Rattle.room.specs.Room.{placed, Written}
-use Rattle.room.specs.Putting.{endOf, Put}
-use Rattle.room.proofs.Pieces.{settles, put-length}
+use Rattle.memory.specs.declared.Wrote.{Wrote}
+use Rattle.memory.specs.Room.{placed, Written}
+use Rattle.memory.specs.Putting.{endOf, Put}
+use Rattle.memory.proofs.Pieces.{settles, put-length}
 use Rattle.recorder.specs.Writing.{fieldOctets, headOctets, fieldedOf, tailOctets, Holds, recordOctets}
 
 dropped : (k n : ℕ) → drop k (replicate {A = ℕ} n 0) ≡ replicate {A = ℕ} (n - k) 0

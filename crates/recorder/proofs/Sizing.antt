@@ -6,9 +6,9 @@ use mathlib.Core.Path.{_≡_}
 use native.Mathlib.Omega.{arith}
 use borrow.Author.Tests.{eqb-true}
 use lib.ListN.{length, length-append, length-replicate}
-use Rattle.events.specs.declared.Event.{Event}
-use Rattle.decide.proofs.Tests.{both}
-use Rattle.writable.proofs.Whole.{element-small}
+use Rattle.event.specs.declared.Event.{Event}
+use Rattle.logic.proofs.Tests.{both}
+use Rattle.user_element.proofs.writable.Whole.{element-small}
 use Rattle.recorder.specs.Writing.{fieldOctets, headOctets, fieldedOf, eventFitsOf, tailFitsOf, recordFitsOf}
 
 pub field-is : (u : List ℕ) → length u ≤ 131 → length (fieldOctets u) ≡ 132

@@ -5,13 +5,13 @@ use mathlib.Core.Path.{_≡_}
 use mathlib.Core.Bool.{Bool, true, false, not, _&&_}
 use lib.ListN.{length, take, replicate}
 use lib.Dec.{ltb, eqb}
-use Rattle.writable.specs.Writable.{elementFitsOf}
-use Rattle.events.specs.declared.Event.{Event}
-use Rattle.asking.specs.declared.What.{What}
-use Rattle.sides.specs.declared.Side.{Side}
-use Rattle.standing.specs.declared.Answers.{Answers}
-use Rattle.standing.specs.declared.Given.{Given}
-use Rattle.standing.specs.declared.Request.{Request}
+use Rattle.user_element.specs.Writable.{elementFitsOf}
+use Rattle.event.specs.declared.Event.{Event}
+use Rattle.facility_rules.specs.declared.What.{What}
+use Rattle.sent.specs.declared.side.Side.{Side}
+use Rattle.services.specs.declared.Answers.{Answers}
+use Rattle.services.specs.declared.Given.{Given}
+use Rattle.services.specs.declared.Request.{Request}
 use Rattle.recorder.specs.declared.Head.{Head}
 
 abbrev pub flagOctet : Bool → ℕ

@@ -4,21 +4,21 @@ ghost use mathlib.Core.Bool.{cond};
 ghost use mathlib.Core.List.{[], _++_};
 ghost use Prim.Native.Nat.{_≤_, _+_, _/_, _%_};
 ghost use lib.ListN.{length, take};
-ghost use Rattle.events.specs.declared.Event.{Event};
-ghost use Rattle.room.specs.Room.{Written};
+ghost use Rattle.event.specs.declared.Event.{Event};
+ghost use Rattle.memory.specs.Room.{Written};
 ghost use Rattle.recorder.specs.Writing.{flagOctet, sideOctet, requestOctet, givenOctet, whatOctet, fieldOctets, headOctets, Holds, sidedOctets, answersOctets, fieldedOf, recordOctets, eventFitsOf, recordFitsOf};
-use asking::What;
-use events::Event;
+use event::Event;
+use facility_rules::What;
+use memory::Bar;
+use memory::Wrote;
+use memory::write_octets;
 use rights::Rights;
-use room::Bar;
-use room::Wrote;
-use room::write_octets;
-use sides::Side;
-use standing::Answers;
-use standing::Given;
-use standing::Request;
-use standing::Requests;
-use writable::element_fits;
+use sent::side::Side;
+use services::Answers;
+use services::Given;
+use services::Request;
+use services::Requests;
+use user_element::writable::element_fits;
 
 // What comes before the element field of a record: its first octets, so many as `size` says.
 struct Head {

@@ -1,4 +1,4 @@
 // Replays a trace: a line a record, from standard input to standard output.
 fn main() {
-    play::run(false);
+    trace_program::run(false);
 }

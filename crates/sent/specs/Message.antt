@@ -1,12 +1,12 @@
 -- A message to one user: "At most one message goes to each user per event."
 use mathlib.Core.Bool.{Bool, true, false, cond}
-use Rattle.causes.specs.declared.Cause.{Cause}
-use Rattle.standing.specs.declared.Facilities.{Facilities}
-use Rattle.standing.specs.declared.Said.{Said}
-use Rattle.kinds.specs.declared.Kind.{Kind}
+use Rattle.cause.specs.declared.Cause.{Cause}
+use Rattle.services.specs.declared.Facilities.{Facilities}
+use Rattle.services.specs.declared.Said.{Said}
+use Rattle.message_types.specs.declared.Kind.{Kind}
 use Rattle.sent.specs.declared.Level.{Level}
 use Rattle.sent.specs.declared.Sent.{Sent}
-use Rattle.causes.specs.Cause.{discarded}
+use Rattle.cause.specs.Cause.{discarded}
 
 -- nothing is said of any service
 unfoldable pub silence : Facilities

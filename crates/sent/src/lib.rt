@@ -1,11 +1,13 @@
 // A message to one user.
 ghost use mathlib.Core.Path.{_≡_};
 ghost use Rattle.sent.specs.Message.{sayingOf, bareOf, congestionOf, informsOf, onlyIfOf};
-use causes::Cause;
-use causes::DISCARDED;
-use kinds::Kind;
-use standing::Facilities;
-use standing::Said;
+use cause::Cause;
+use cause::DISCARDED;
+use message_types::Kind;
+use services::Facilities;
+use services::Said;
+
+pub mod side;
 
 // Nothing is said of any service.
 const SILENCE: Facilities = Facilities {

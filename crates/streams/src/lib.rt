@@ -1,10 +1,10 @@
 // Standard input and standard output as the programs use them, with a buffer that holds what was read and not used yet. No contract can
 // say what is read or written: `send` and `fetch` are proved to reach into no other memory than the buffer's.
 ghost use mathlib.Core.Path.{_≡_};
-ghost use Rattle.room.specs.Room.{keptOf};
+ghost use Rattle.memory.specs.Room.{keptOf};
 use libc::STDIN_FILENO;
 use libc::STDOUT_FILENO;
-use room::keep;
+use memory::keep;
 
 // to: where what the buffer holds ends now; came: whether anything was read.
 pub struct Fetched {

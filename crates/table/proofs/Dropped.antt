@@ -22,7 +22,7 @@ use denote.Triple.End.{Kepts, Fins}
 use denote.Triple.Entry.{Args, Res, alive, onEntry}
 use denote.Triple.Spec.{Meets}
 use denote.Triple.Walked.{Stays, stay-dropped, fitsOf, hasOf, walkOf, Silent, goes-dropped, AllGo, walked, walk-meets}
-use Rattle.meter.proofs.Plainly.{leaves}
+use Rattle.flow_meter.proofs.Plainly.{leaves}
 
 module _ {n : ℕ} where
   abbrev dropped : (ss : List (Slot n)) (ks : Kepts ss) → Stays ss ks

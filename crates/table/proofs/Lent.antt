@@ -30,7 +30,7 @@ use denote.Triple.Statement.{Triple}
 use Rattle.call.specs.declared.Call.{Call}
 use Rattle.call.proofs.Call as R
 use Rattle.call.proofs.Call.Laws as R′
-use Rattle.meter.proofs.Plainly.{calls-told}
+use Rattle.flow_meter.proofs.Plainly.{calls-told}
 
 -- the machine value of a record; the type of a lent table, and what a reference to one owns
 abbrev pub val : Call → Val

@@ -9,11 +9,11 @@ use lib.ListN.{length, getD, drop, drop-of-length-le}
 use Rattle.call.specs.declared.Call.{Call}
 use Rattle.call.specs.Sound.{freshCall, soundOf}
 use Rattle.phases.specs.Phase.{liveOf}
-use Rattle.looking.specs.declared.Sought.{Sought}
-use Rattle.looking.specs.Look.{liveAs, isAt, laterOf, faultOf}
+use Rattle.table.specs.declared.sought.Sought.{Sought}
+use Rattle.table.specs.Look.{liveAs, isAt, laterOf, faultOf}
 use Rattle.table.specs.First.{firstFrom}
 use Rattle.table.specs.Table.{findFrom, heldIn, callsSound}
-use Rattle.choosing.specs.declared.choice.Found.{Found}
+use Rattle.table.specs.declared.choice.Found.{Found}
 use Rattle.table.proofs.Live.{finds-live}
 use Rattle.table.proofs.Along.{one-more, dropped}
 

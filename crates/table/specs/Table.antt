@@ -7,8 +7,8 @@ use lib.ListN.{length}
 use Rattle.call.specs.declared.Call.{Call}
 use Rattle.call.specs.Sound.{soundOf}
 use Rattle.phases.specs.Phase.{liveOf}
-use Rattle.choosing.specs.declared.choice.Found.{Found}
-use Rattle.looking.specs.Look.{liveAs, freeOf}
+use Rattle.table.specs.declared.choice.Found.{Found}
+use Rattle.table.specs.Look.{liveAs, freeOf}
 
 -- "a lent table of at most 32 records"
 abbrev pub greatestTable : ℕ

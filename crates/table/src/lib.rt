@@ -4,12 +4,19 @@ ghost use lib.ListN.{getD, drop};
 ghost use Rattle.call.specs.Sound.{freshCall};
 ghost use Rattle.table.specs.First.{firstFrom};
 ghost use Rattle.table.specs.Table.{findFrom, placeFrom, callsSound, tableSound};
+use crate::choice::Found;
+use crate::sought::Sought;
+use crate::sought::at_fault;
+use crate::sought::later;
+use crate::sought::meets;
 use call::Call;
-use choosing::choice::Found;
-use looking::Sought;
-use looking::at_fault;
-use looking::later;
-use looking::meets;
+
+pub mod choice;
+pub mod plan;
+pub mod settle;
+pub mod sought;
+pub mod step;
+pub mod verdict;
 
 // Records that a table has at most.
 pub const GREATEST_TABLE: usize = 32;

@@ -9,7 +9,7 @@ use borrow.Author.Tests.{lt-ltb, le-ltb, ltb-false}
 use lib.Dec.{ltb, lit<}
 use lib.ListN.{length, take, drop, set, length-append, length-set, length-drop, drop-of-length-le}
 use lib.Seq.{take-all, drop-cons, getD-set-same, drop-set-lt}
-use Rattle.decide.proofs.Decide.{by-cond}
+use Rattle.logic.proofs.Decide.{by-cond}
 use Rattle.text.specs.Decimal.{lastDigit, digitsOf, decimalOf}
 
 tenth : (k n : ℕ) → n ≤ suc k → ltb n 10 ≡ false → n / 10 ≤ k

@@ -9,11 +9,11 @@ use borrow.Author.Tests.{le-leb, leb-true, leb-false}
 use lib.Dec.{leb}
 use lib.ListN.{length, take, drop, set, length-append, length-set}
 use lib.Seq.{paste-zero, take-append-seam, set-split}
-use Rattle.room.specs.declared.Bar.{Bar}
-use Rattle.room.specs.declared.Wrote.{Wrote}
-use Rattle.room.specs.Room.{placed, wroteOf, leftOf, Written}
-use Rattle.room.specs.Putting.{endOf}
-use Rattle.room.proofs.Pieces.{length-placed, placed-then}
+use Rattle.memory.specs.declared.Bar.{Bar}
+use Rattle.memory.specs.declared.Wrote.{Wrote}
+use Rattle.memory.specs.Room.{placed, wroteOf, leftOf, Written}
+use Rattle.memory.specs.Putting.{endOf}
+use Rattle.memory.proofs.Pieces.{length-placed, placed-then}
 use Rattle.text.specs.Pieces.{Piece}
 
 -- what was written where there is room for it is a piece

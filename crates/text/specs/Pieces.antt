@@ -3,7 +3,7 @@ use Prim.Native.Nat.{ℕ, _+_, _≤_}
 use mathlib.Core.List.{List}
 use mathlib.Core.Path.{_≡_}
 use lib.ListN.{length}
-use Rattle.room.specs.Room.{placed}
+use Rattle.memory.specs.Room.{placed}
 
 -- The buffer l became l' by a piece p at a place; the piece ends at r, and has at most so many octets. Nobody has to believe
 -- this: it is for functions inside a crate that write a line in pieces, and no public contract cites it.

@@ -2,10 +2,10 @@
 ghost use mathlib.Core.Path.{_≡_};
 ghost use mathlib.Core.Bool.{true};
 ghost use Prim.Native.Nat.{_<_};
-ghost use Rattle.room.specs.Room.{Written};
+ghost use Rattle.memory.specs.Room.{Written};
 ghost use Rattle.text.specs.Hex.{digitOf, hexOf};
-use room::Wrote;
-use room::write_octets;
+use memory::Wrote;
+use memory::write_octets;
 
 fn digit(d: u8) -> u8
     requires { ⌜ d < 16 ⌝ }

@@ -1,3 +1,3 @@
-// Numbers as text, put into a buffer that the caller lends. A piece of octets is put there by `room::write_octets`.
+// Numbers as text, put into a buffer that the caller lends. A piece of octets is put there by `memory::write_octets`.
 pub mod decimal;
 pub mod hex;

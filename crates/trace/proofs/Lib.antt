@@ -1,3 +1,3 @@
 pub mod Naming
-pub mod Ranged
-pub mod Promises
+pub mod Blank
+pub mod Sizes

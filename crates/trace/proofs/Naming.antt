@@ -5,11 +5,11 @@ use mathlib.Core.Bool.{true, false}
 use mathlib.Core.Path.{_≡_}
 use borrow.Author.Tests.{lt-ltb, le-ltb}
 use lib.ListN.{length}
-use Rattle.body.specs.declared.kind.Kind.{Kind}
-use Rattle.body.specs.declared.kind.Named.{Named}
-use Rattle.trace.specs.declared.reading.Fault.{Fault}
-use Rattle.trace.specs.declared.reading.Record.{Record}
-use Rattle.body.specs.Kind.{sizeOf}
+use Rattle.trace.specs.declared.kind.Kind.{Kind}
+use Rattle.trace.specs.declared.kind.Named.{Named}
+use Rattle.trace.specs.declared.Fault.{Fault}
+use Rattle.trace.specs.declared.Record.{Record}
+use Rattle.trace.specs.Kind.{sizeOf}
 use Rattle.trace.specs.Reading.{rangedOf, entryOf, namedOf}
 
 module _ (k : Kind) (t : List ℕ) where

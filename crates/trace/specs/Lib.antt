@@ -1,2 +1,5 @@
 pub mod Reading
-pub mod Promises
+pub mod Recorded
+pub mod Kind
+pub mod Field
+pub mod Values

@@ -4,18 +4,18 @@ use mathlib.Core.List.{List}
 use mathlib.Core.Bool.{Bool, true, false, cond, _&&_}
 use lib.ListN.{length, getD, take, drop}
 use lib.Dec.{ltb, leb, eqb}
-use Rattle.events.specs.declared.Event.{Event}
+use Rattle.event.specs.declared.Event.{Event}
 use Rattle.rights.specs.declared.Rights.{Rights}
-use Rattle.standing.specs.declared.Answers.{Answers}
-use Rattle.standing.specs.declared.Requests.{Requests}
-use Rattle.body.specs.declared.kind.Kind.{Kind}
-use Rattle.body.specs.declared.kind.Named.{Named}
-use Rattle.trace.specs.declared.reading.Fault.{Fault}
-use Rattle.trace.specs.declared.reading.Entry.{Entry}
-use Rattle.trace.specs.declared.reading.Record.{Record}
-use Rattle.body.specs.Kind.{kindOf, sizeOf}
-use Rattle.body.specs.Field.{fieldSize, fieldFitsOf}
-use Rattle.values.specs.Values.{flagOf, sideOf, requestOf, givenOf, whatOf}
+use Rattle.services.specs.declared.Answers.{Answers}
+use Rattle.services.specs.declared.Requests.{Requests}
+use Rattle.trace.specs.declared.kind.Kind.{Kind}
+use Rattle.trace.specs.declared.kind.Named.{Named}
+use Rattle.trace.specs.declared.Fault.{Fault}
+use Rattle.trace.specs.declared.Entry.{Entry}
+use Rattle.trace.specs.declared.Record.{Record}
+use Rattle.trace.specs.Kind.{kindOf, sizeOf}
+use Rattle.trace.specs.Field.{fieldSize, fieldFitsOf}
+use Rattle.trace.specs.Values.{flagOf, sideOf, requestOf, givenOf, whatOf}
 
 -- the paper's number for each fault
 abbrev pub faultNumber : Fault → ℕ

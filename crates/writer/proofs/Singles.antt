@@ -4,8 +4,8 @@ use mathlib.Core.List.{[], _∷_}
 use mathlib.Core.Path.{_≡_, refl}
 use native.Mathlib.Omega.{arith}
 use lib.ListN.{getD}
-use Rattle.fields.specs.declared.Single.{Single}
-use Rattle.sizes.specs.Writing.{singleOctets}
+use Rattle.message_fields.specs.declared.Single.{Single}
+use Rattle.writer.specs.Writing.{singleOctets}
 
 pub none : (s : Single) {x : ℕ} → x ≡ getD (singleOctets s) 0 0 → x ≡ 0 → singleOctets s ≡ []
 none Single.Absent e z = refl

@@ -6,12 +6,12 @@ use Rattle.elements.proofs.note.Statement.{statement}
 use Rattle.elements.proofs.note.Tie as tie
 use Rattle.elements.proofs.note.Reads as reads
 use Rattle.elements.proofs.note.Lts as lts
-use Rattle.forms.proofs.facility_in.Reads as facility-in-reads
-use Rattle.found.proofs.first_cause.Reads as first-cause-reads
-use Rattle.found.proofs.first_place.Reads as first-place-reads
-use Rattle.single.proofs.first_single.Reads as first-single-reads
-use Rattle.single.proofs.single_in.Reads as single-in-reads
-use Rattle.found.proofs.with_facility.Reads as with-facility-reads
+use Rattle.facility.proofs.forms.facility_in.Reads as facility-in-reads
+use Rattle.elements.proofs.so_far.first_cause.Reads as first-cause-reads
+use Rattle.elements.proofs.so_far.first_place.Reads as first-place-reads
+use Rattle.elements.proofs.single.first_single.Reads as first-single-reads
+use Rattle.elements.proofs.single.single_in.Reads as single-in-reads
+use Rattle.elements.proofs.so_far.with_facility.Reads as with-facility-reads
 
 shared-slice-read-x : tie.Need-shared-slice-read-x
 shared-slice-read-x c = search needs

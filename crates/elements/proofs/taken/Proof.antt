@@ -3,7 +3,7 @@ use Rattle.elements.proofs.taken.Statement.{statement}
 use Rattle.elements.proofs.taken.Tie as tie
 use Rattle.elements.proofs.taken.Reads as reads
 use Rattle.elements.proofs.taken.Lts as lts
-use Rattle.found.proofs.cause_seen.Reads as cause-seen-reads
+use Rattle.elements.proofs.so_far.cause_seen.Reads as cause-seen-reads
 
 cause-seen-requires : tie.Need-cause-seen-requires
 cause-seen-requires c κs = search needs

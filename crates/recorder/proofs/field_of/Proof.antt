@@ -4,7 +4,7 @@ use Rattle.recorder.proofs.field_of.Statement.{statement}
 use Rattle.recorder.proofs.field_of.Tie as tie
 use Rattle.recorder.proofs.field_of.Reads as reads
 use Rattle.recorder.proofs.field_of.Lts as lts
-use Rattle.room.proofs.write_octets.Reads as write-octets-reads
+use Rattle.memory.proofs.write_octets.Reads as write-octets-reads
 
 cast-field : tie.Need-cast-field
 cast-field c = search needs

@@ -7,7 +7,7 @@ use Rattle.recorder.proofs.joined.Tie as tie
 use Rattle.recorder.proofs.joined.Reads as reads
 use Rattle.recorder.proofs.joined.Lts as lts
 use Rattle.recorder.proofs.field_of.Reads as field-of-reads
-use Rattle.room.proofs.write_octets.Reads as write-octets-reads
+use Rattle.memory.proofs.write_octets.Reads as write-octets-reads
 
 field-of-requires : tie.Need-field-of-requires
 field-of-requires c κs = search needs

@@ -1,7 +1,7 @@
 use mathlib.Core.Path.{sym, _∙_}
 use native.Mathlib.Omega.{arith}
 use borrow.Author.Tests.{not-true, not-false}
-use Rattle.room.proofs.Outcome.{barred, in-range}
+use Rattle.memory.proofs.Outcome.{barred, in-range}
 use Rattle.recorder.proofs.Sizing.{head-small, record-small, fits-small}
 use Rattle.recorder.proofs.Joining.{the-record}
 use borrow.Author.Needs.{needs}
@@ -14,7 +14,7 @@ use Rattle.recorder.proofs.head_of.Reads as head-of-reads
 use Rattle.recorder.proofs.joined.Reads as joined-reads
 use Rattle.recorder.proofs.record_fits.Reads as record-fits-reads
 use Rattle.recorder.proofs.size_of.Reads as size-of-reads
-use Rattle.room.proofs.write_octets.Reads as write-octets-reads
+use Rattle.memory.proofs.write_octets.Reads as write-octets-reads
 
 record-fits-requires : tie.Need-record-fits-requires
 record-fits-requires c κs = search needs

@@ -1,6 +1,6 @@
 use mathlib.Core.Path.{refl}
 use borrow.Author.Tests.{le-leb, lt-leb}
-use Rattle.room.specs.Room.{keptOf}
+use Rattle.memory.specs.Room.{keptOf}
 use borrow.Author.Needs.{needs}
 use Rattle.streams.proofs.held.Statement.{statement}
 use Rattle.streams.proofs.held.Tie as tie

@@ -38,7 +38,7 @@ use Rattle.call.specs.Sound.{freshCall}
 use Rattle.call.specs.declared.Call.{Call}
 use Rattle.table.proofs.Dropped.{Leaving, leaves-dropped, meets-dropped}
 use Rattle.table.proofs.Ends.{full, forgets, frees-all}
-use Rattle.meter.proofs.Plainly.{pre-plain, calls-plain}
+use Rattle.flow_meter.proofs.Plainly.{pre-plain, calls-plain}
 use Rattle.table.proofs.Arms.{assigns-on}
 use Rattle.table.proofs.Lent.{val}
 use Rattle.table.proofs.Rows.{byte-fits}

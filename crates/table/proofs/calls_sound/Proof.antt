@@ -45,36 +45,36 @@ use Rattle.call.specs.Sound.{freshCall, soundOf}
 use Rattle.phases.specs.Phase.{liveOf}
 use Rattle.call.proofs.Call as T
 use Rattle.call.proofs.Call.Laws as T′
-use Rattle.looking.specs.declared.Sought.{Sought}
-use Rattle.looking.specs.Look.{laterOf, faultOf}
+use Rattle.table.specs.declared.sought.Sought.{Sought}
+use Rattle.table.specs.Look.{laterOf, faultOf}
 use Rattle.table.specs.First.{firstFrom}
 use Rattle.table.specs.Table.{heldIn, callsSound}
-use Rattle.choosing.specs.declared.choice.Found.{Found}
+use Rattle.table.specs.declared.choice.Found.{Found}
 use Rattle.table.proofs.Arms.{skips-to}
 use Rattle.table.proofs.Dropped.{Leaving, leaves-dropped, meets-dropped}
 use Rattle.table.proofs.Ends.{full, dying, forgets, frees-all}
-use Rattle.meter.proofs.Plainly.{pre-plain, calls-plain}
+use Rattle.flow_meter.proofs.Plainly.{pre-plain, calls-plain}
 use Rattle.table.proofs.Lent.{val, slice, shown}
 use Rattle.table.proofs.Asked.{uval, sval, AtPlace, FirstFrom, calls-place, calls-first}
 use Rattle.table.proofs.Searched.{alone-at, sounds, fault-says, stops, goes-on}
-use Rattle.choosing.proofs.choice.Found as U
-use Rattle.choosing.proofs.choice.Found.Laws as U′
-use Rattle.looking.proofs.Sought as S
-use Rattle.looking.proofs.Sought.Laws as S′
+use Rattle.table.proofs.choice.Found as U
+use Rattle.table.proofs.choice.Found.Laws as U′
+use Rattle.table.proofs.sought.Sought as S
+use Rattle.table.proofs.sought.Sought.Laws as S′
 use Rattle.table.proofs.call_at.Symbol as g-def
 use Rattle.table.proofs.call_at.Symbol.{name as #g}
 use Rattle.table.proofs.call_at.Met as g-thm
-use Rattle.looking.proofs.later as m
-use Rattle.looking.proofs.later.Symbol as m-def
-use Rattle.looking.proofs.later.Symbol.{name as #m}
-use Rattle.looking.proofs.later.Met as m-thm
+use Rattle.table.proofs.sought.later as m
+use Rattle.table.proofs.sought.later.Symbol as m-def
+use Rattle.table.proofs.sought.later.Symbol.{name as #m}
+use Rattle.table.proofs.sought.later.Met as m-thm
 use Rattle.table.proofs.first_from.Symbol as s-def
 use Rattle.table.proofs.first_from.Symbol.{name as #s}
 use Rattle.table.proofs.first_from.Met as s-thm
-use Rattle.looking.proofs.at_fault as p
-use Rattle.looking.proofs.at_fault.Symbol as p-def
-use Rattle.looking.proofs.at_fault.Symbol.{name as #p}
-use Rattle.looking.proofs.at_fault.Met as p-thm
+use Rattle.table.proofs.sought.at_fault as p
+use Rattle.table.proofs.sought.at_fault.Symbol as p-def
+use Rattle.table.proofs.sought.at_fault.Symbol.{name as #p}
+use Rattle.table.proofs.sought.at_fault.Met as p-thm
 use Rattle.table.proofs.calls_sound.Key.{name as #f}
 use Rattle.table.proofs.calls_sound as f
 use Rattle.table.proofs.calls_sound.Statement as stated
@@ -255,6 +255,6 @@ calls-sound-spec 𝓤 H 𝓜 𝓖 𝓡 =
     (tables 𝓤 H 𝓜 𝓡 code.env .C) (tables 𝓤 H 𝓜 𝓡 code.env .Λ) #f code.function (code.unfolded 𝓤 H 𝓜 𝓡)
     (meets 𝓤 H (𝓖 .A) (givenOf 𝓤 H 𝓜 𝓖) (𝓜 .mem) (𝓡 .run) (tablesOf 𝓤 H 𝓜 (tables 𝓤 H 𝓜 𝓡 code.env))
     (cited 𝓤 H (AtPlace 𝓤 H (𝓖 .A) (𝓜 .mem) (𝓡 .run)) 𝓜 𝓡 code.env #g g-def.routine code.calls-table·call-at (g-thm.met 𝓤 H 𝓜 𝓖 𝓡))
-    (cited 𝓤 H (L 𝓤 H (𝓖 .A) (𝓜 .mem) (𝓡 .run)) 𝓜 𝓡 code.env #m m-def.routine code.calls-looking·later (m-thm.met 𝓤 H 𝓜 𝓖 𝓡))
+    (cited 𝓤 H (L 𝓤 H (𝓖 .A) (𝓜 .mem) (𝓡 .run)) 𝓜 𝓡 code.env #m m-def.routine code.calls-table·sought·later (m-thm.met 𝓤 H 𝓜 𝓖 𝓡))
     (cited 𝓤 H (FirstFrom 𝓤 H (𝓖 .A) (𝓜 .mem) (𝓡 .run)) 𝓜 𝓡 code.env #s s-def.routine code.calls-table·first-from (s-thm.met 𝓤 H 𝓜 𝓖 𝓡))
-    (cited 𝓤 H (P 𝓤 H (𝓖 .A) (𝓜 .mem) (𝓡 .run)) 𝓜 𝓡 code.env #p p-def.routine code.calls-looking·at-fault (p-thm.met 𝓤 H 𝓜 𝓖 𝓡)))
+    (cited 𝓤 H (P 𝓤 H (𝓖 .A) (𝓜 .mem) (𝓡 .run)) 𝓜 𝓡 code.env #p p-def.routine code.calls-table·sought·at-fault (p-thm.met 𝓤 H 𝓜 𝓖 𝓡)))

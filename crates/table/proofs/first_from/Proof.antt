@@ -44,29 +44,29 @@ use Rattle.call.specs.declared.Call.{Call}
 use Rattle.call.specs.Sound.{freshCall}
 use Rattle.call.proofs.Call as T
 use Rattle.call.proofs.Call.Laws as T′
-use Rattle.looking.specs.declared.Sought.{Sought}
-use Rattle.looking.specs.Look.{meetsOf}
+use Rattle.table.specs.declared.sought.Sought.{Sought}
+use Rattle.table.specs.Look.{meetsOf}
 use Rattle.table.specs.First.{firstFrom}
-use Rattle.choosing.specs.declared.choice.Found.{Found}
-use Rattle.choosing.specs.declared.choice.Found.the-variants.{At, Nothing}
+use Rattle.table.specs.declared.choice.Found.{Found}
+use Rattle.table.specs.declared.choice.Found.the-variants.{At, Nothing}
 use Rattle.table.proofs.Arms.{skips-to}
 use Rattle.table.proofs.Dropped.{Leaving, leaves-dropped, meets-dropped}
 use Rattle.table.proofs.Ends.{full, dying, forgets, frees-all}
-use Rattle.meter.proofs.Plainly.{pre-plain, calls-plain}
+use Rattle.flow_meter.proofs.Plainly.{pre-plain, calls-plain}
 use Rattle.table.proofs.Lent.{val, slice, shown}
 use Rattle.table.proofs.Asked.{uval, sval, AtPlace, calls-place}
 use Rattle.table.proofs.Along.{one-more, dropped}
-use Rattle.choosing.proofs.choice.Found as U
-use Rattle.choosing.proofs.choice.Found.Laws as U′
-use Rattle.looking.proofs.Sought as S
-use Rattle.looking.proofs.Sought.Laws as S′
+use Rattle.table.proofs.choice.Found as U
+use Rattle.table.proofs.choice.Found.Laws as U′
+use Rattle.table.proofs.sought.Sought as S
+use Rattle.table.proofs.sought.Sought.Laws as S′
 use Rattle.table.proofs.call_at.Symbol as g-def
 use Rattle.table.proofs.call_at.Symbol.{name as #g}
 use Rattle.table.proofs.call_at.Met as g-thm
-use Rattle.looking.proofs.meets as p
-use Rattle.looking.proofs.meets.Symbol as p-def
-use Rattle.looking.proofs.meets.Symbol.{name as #p}
-use Rattle.looking.proofs.meets.Met as p-thm
+use Rattle.table.proofs.sought.meets as p
+use Rattle.table.proofs.sought.meets.Symbol as p-def
+use Rattle.table.proofs.sought.meets.Symbol.{name as #p}
+use Rattle.table.proofs.sought.meets.Met as p-thm
 use Rattle.table.proofs.first_from.Key.{name as #f}
 use Rattle.table.proofs.first_from as f
 use Rattle.table.proofs.first_from.Statement as stated
@@ -238,4 +238,4 @@ first-from-spec 𝓤 H 𝓜 𝓖 𝓡 =
     (tables 𝓤 H 𝓜 𝓡 code.env .C) (tables 𝓤 H 𝓜 𝓡 code.env .Λ) #f code.function (code.unfolded 𝓤 H 𝓜 𝓡)
     (meets 𝓤 H (𝓖 .A) (givenOf 𝓤 H 𝓜 𝓖) (𝓜 .mem) (𝓡 .run) (tablesOf 𝓤 H 𝓜 (tables 𝓤 H 𝓜 𝓡 code.env))
     (cited 𝓤 H (AtPlace 𝓤 H (𝓖 .A) (𝓜 .mem) (𝓡 .run)) 𝓜 𝓡 code.env #g g-def.routine code.calls-table·call-at (g-thm.met 𝓤 H 𝓜 𝓖 𝓡))
-    (cited 𝓤 H (P 𝓤 H (𝓖 .A) (𝓜 .mem) (𝓡 .run)) 𝓜 𝓡 code.env #p p-def.routine code.calls-looking·meets (p-thm.met 𝓤 H 𝓜 𝓖 𝓡)))
+    (cited 𝓤 H (P 𝓤 H (𝓖 .A) (𝓜 .mem) (𝓡 .run)) 𝓜 𝓡 code.env #p p-def.routine code.calls-table·sought·meets (p-thm.met 𝓤 H 𝓜 𝓖 𝓡)))

@@ -1,11 +1,11 @@
-use Rattle.room.proofs.Pieces.{no-put, settles}
+use Rattle.memory.proofs.Pieces.{no-put, settles}
 use borrow.Author.Needs.{needs}
 use Rattle.writer.proofs.put_cause.Statement.{statement}
 use Rattle.writer.proofs.put_cause.Tie as tie
 use Rattle.writer.proofs.put_cause.Reads as reads
 use Rattle.writer.proofs.put_cause.Lts as lts
-use Rattle.cause.proofs.write_cause.Reads as write-cause-reads
-use Rattle.room.proofs.end_of.Reads as end-of-reads
+use Rattle.cause.proofs.element.write_cause.Reads as write-cause-reads
+use Rattle.memory.proofs.end_of.Reads as end-of-reads
 
 enum-told : tie.Need-enum-told
 enum-told c = search needs

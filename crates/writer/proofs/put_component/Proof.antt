@@ -1,11 +1,11 @@
-use Rattle.room.proofs.Pieces.{settles}
+use Rattle.memory.proofs.Pieces.{settles}
 use borrow.Author.Needs.{needs}
 use Rattle.writer.proofs.put_component.Statement.{statement}
 use Rattle.writer.proofs.put_component.Tie as tie
 use Rattle.writer.proofs.put_component.Reads as reads
 use Rattle.writer.proofs.put_component.Lts as lts
-use Rattle.filling.proofs.write_facility.Reads as write-facility-reads
-use Rattle.room.proofs.end_of.Reads as end-of-reads
+use Rattle.facility.proofs.filling.write_facility.Reads as write-facility-reads
+use Rattle.memory.proofs.end_of.Reads as end-of-reads
 
 write-facility-requires : tie.Need-write-facility-requires
 write-facility-requires c κs = search needs

@@ -1,9 +1,9 @@
 use mathlib.Core.Bool.{_&&_}
-use Rattle.component.specs.Facility.{componentFits}
+use Rattle.facility.specs.Facility.{componentFits}
 use native.Mathlib.Omega.{arith}
 use lib.ListN.{length-append}
-use Rattle.room.proofs.Pieces.{no-put, puts}
-use Rattle.decide.proofs.Tests.{both}
+use Rattle.memory.proofs.Pieces.{no-put, puts}
+use Rattle.logic.proofs.Tests.{both}
 use borrow.Author.Needs.{needs}
 use Rattle.writer.proofs.put_facilities.Statement.{statement}
 use Rattle.writer.proofs.put_facilities.Tie as tie

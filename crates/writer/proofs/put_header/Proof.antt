@@ -1,14 +1,14 @@
 use mathlib.Core.Path.{refl}
 use native.Mathlib.Omega.{arith}
-use Rattle.room.proofs.Pieces.{settles}
+use Rattle.memory.proofs.Pieces.{settles}
 use borrow.Author.Needs.{needs}
 use Rattle.writer.proofs.put_header.Statement.{statement}
 use Rattle.writer.proofs.put_header.Tie as tie
 use Rattle.writer.proofs.put_header.Reads as reads
 use Rattle.writer.proofs.put_header.Lts as lts
-use Rattle.room.proofs.write_octets.Reads as write-octets-reads
-use Rattle.kinds.proofs.kind_octet.Reads as kind-octet-reads
-use Rattle.room.proofs.end_of.Reads as end-of-reads
+use Rattle.memory.proofs.write_octets.Reads as write-octets-reads
+use Rattle.message_types.proofs.kind_octet.Reads as kind-octet-reads
+use Rattle.memory.proofs.end_of.Reads as end-of-reads
 use Rattle.writer.proofs.top.Reads as top-reads
 
 kind-octet-requires : tie.Need-kind-octet-requires

@@ -1,20 +1,20 @@
 use mathlib.Core.Path.{refl}
 use native.Mathlib.Omega.{arith}
-use Rattle.sizes.specs.Writing.{frontOctets, messageOctets}
-use Rattle.room.proofs.Pieces.{five-puts, settles}
-use Rattle.fitting.proofs.Ranges.{fits}
-use Rattle.sizes.proofs.Sizes.{size-is}
+use Rattle.writer.specs.Writing.{frontOctets, messageOctets}
+use Rattle.memory.proofs.Pieces.{five-puts, settles}
+use Rattle.writer.proofs.fitting.Ranges.{fits}
+use Rattle.writer.proofs.sizes.Sizes.{size-is}
 use borrow.Author.Needs.{needs}
 use Rattle.writer.proofs.put_message.Statement.{statement}
 use Rattle.writer.proofs.put_message.Tie as tie
 use Rattle.writer.proofs.put_message.Reads as reads
 use Rattle.writer.proofs.put_message.Lts as lts
-use Rattle.room.proofs.write_octets.Reads as write-octets-reads
+use Rattle.memory.proofs.write_octets.Reads as write-octets-reads
 use Rattle.writer.proofs.put_cause.Reads as put-cause-reads
 use Rattle.writer.proofs.put_facilities.Reads as put-facilities-reads
 use Rattle.writer.proofs.put_header.Reads as put-header-reads
 use Rattle.writer.proofs.put_single.Reads as put-single-reads
-use Rattle.room.proofs.end_of.Reads as end-of-reads
+use Rattle.memory.proofs.end_of.Reads as end-of-reads
 
 put-header-requires : tie.Need-put-header-requires
 put-header-requires c κs =

@@ -1,13 +1,13 @@
 use mathlib.Core.Path.{refl}
-use Rattle.room.proofs.Pieces.{no-put, settles}
+use Rattle.memory.proofs.Pieces.{no-put, settles}
 use Rattle.writer.proofs.Singles.{none, one}
 use borrow.Author.Needs.{needs}
 use Rattle.writer.proofs.put_single.Statement.{statement}
 use Rattle.writer.proofs.put_single.Tie as tie
 use Rattle.writer.proofs.put_single.Reads as reads
 use Rattle.writer.proofs.put_single.Lts as lts
-use Rattle.room.proofs.end_of.Reads as end-of-reads
-use Rattle.room.proofs.write_octets.Reads as write-octets-reads
+use Rattle.memory.proofs.end_of.Reads as end-of-reads
+use Rattle.memory.proofs.write_octets.Reads as write-octets-reads
 use Rattle.writer.proofs.single_octet.Reads as single-octet-reads
 
 single-octet-requires : tie.Need-single-octet-requires

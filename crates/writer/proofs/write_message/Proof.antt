@@ -1,15 +1,15 @@
 use mathlib.Core.Path.{sym, _∙_}
 use native.Mathlib.Omega.{arith}
 use borrow.Author.Tests.{not-true, not-false}
-use Rattle.room.proofs.Outcome.{barred, no-room, put-in}
-use Rattle.sizes.proofs.Sizes.{message-is}
+use Rattle.memory.proofs.Outcome.{barred, no-room, put-in}
+use Rattle.writer.proofs.sizes.Sizes.{message-is}
 use borrow.Author.Needs.{needs}
 use Rattle.writer.proofs.write_message.Statement.{statement}
 use Rattle.writer.proofs.write_message.Tie as tie
 use Rattle.writer.proofs.write_message.Reads as reads
 use Rattle.writer.proofs.write_message.Lts as lts
-use Rattle.sizes.proofs.front_size.Reads as front-size-reads
-use Rattle.fitting.proofs.message_fits.Reads as message-fits-reads
+use Rattle.writer.proofs.sizes.front_size.Reads as front-size-reads
+use Rattle.writer.proofs.fitting.message_fits.Reads as message-fits-reads
 use Rattle.writer.proofs.put_message.Reads as put-message-reads
 
 message-fits-requires : tie.Need-message-fits-requires

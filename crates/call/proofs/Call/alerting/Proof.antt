@@ -6,7 +6,7 @@ use Rattle.call.proofs.Call.alerting.Reads as reads
 use Rattle.call.proofs.Call.alerting.Lts as lts
 use Rattle.call.proofs.answering.answered.Reads as answered-reads
 use Rattle.call.proofs.reply.heard.Reads as heard-reads
-use Rattle.fates.proofs.alerting_fates.Reads as alerting-fates-reads
+use Rattle.answering_rules.proofs.alerting_fates.Reads as alerting-fates-reads
 use Rattle.phases.proofs.is_requested.Reads as is-requested-reads
 
 alerting-fates-requires : tie.Need-alerting-fates-requires

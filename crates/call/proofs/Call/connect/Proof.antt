@@ -6,7 +6,7 @@ use Rattle.call.proofs.Call.connect.Reads as reads
 use Rattle.call.proofs.Call.connect.Lts as lts
 use Rattle.call.proofs.answering.answered.Reads as answered-reads
 use Rattle.call.proofs.reply.heard.Reads as heard-reads
-use Rattle.fates.proofs.connect_fates.Reads as connect-fates-reads
+use Rattle.answering_rules.proofs.connect_fates.Reads as connect-fates-reads
 use Rattle.phases.proofs.is_connectable.Reads as is-connectable-reads
 use Rattle.phases.proofs.is_requested.Reads as is-requested-reads
 

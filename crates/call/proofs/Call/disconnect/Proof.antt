@@ -6,8 +6,8 @@ use Rattle.call.proofs.Call.disconnect.Reads as reads
 use Rattle.call.proofs.Call.disconnect.Lts as lts
 use Rattle.call.proofs.disconnect.passed_on.Reads as passed-on-reads
 use Rattle.call.proofs.reply.heard.Reads as heard-reads
-use Rattle.carriage.proofs.look.Reads as look-reads
-use Rattle.closing.proofs.heard_answers.Reads as heard-answers-reads
+use Rattle.user_element.proofs.look.Reads as look-reads
+use Rattle.clearing_rules.proofs.heard_answers.Reads as heard-answers-reads
 use Rattle.phases.proofs.is_up.Reads as is-up-reads
 
 look-requires : tie.Need-look-requires

@@ -7,7 +7,7 @@ use Rattle.call.proofs.Call.information.Lts as lts
 use Rattle.call.proofs.information.carried.Reads as carried-reads
 use Rattle.call.proofs.information.with_element.Reads as with-element-reads
 use Rattle.call.proofs.reply.heard.Reads as heard-reads
-use Rattle.carriage.proofs.look.Reads as look-reads
+use Rattle.user_element.proofs.look.Reads as look-reads
 use Rattle.phases.proofs.is_talking.Reads as is-talking-reads
 
 look-requires : tie.Need-look-requires

@@ -6,7 +6,7 @@ use Rattle.call.proofs.Call.setup.Reads as reads
 use Rattle.call.proofs.Call.setup.Lts as lts
 use Rattle.call.proofs.reply.heard.Reads as heard-reads
 use Rattle.call.proofs.setup.proceeds.Reads as proceeds-reads
-use Rattle.carriage.proofs.look.Reads as look-reads
+use Rattle.user_element.proofs.look.Reads as look-reads
 use Rattle.phases.proofs.is_fresh.Reads as is-fresh-reads
 use Rattle.rights.proofs.reference_fits.Reads as reference-fits-reads
 use Rattle.rights.proofs.rights_fit.Reads as rights-fit-reads

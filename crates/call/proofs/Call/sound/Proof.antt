@@ -6,7 +6,7 @@ use Rattle.call.proofs.Call.sound.Tie as tie
 use Rattle.call.proofs.Call.sound.Reads as reads
 use Rattle.call.proofs.Call.sound.Lts as lts
 use Rattle.call.proofs.Call.live.Reads as live-reads
-use Rattle.meters.proofs.ranges_fit.Reads as ranges-fit-reads
+use Rattle.call.proofs.sound.ranges_fit.Reads as ranges-fit-reads
 
 live-requires : tie.Need-live-requires
 live-requires c κs = search needs

@@ -6,8 +6,8 @@ use Rattle.call.proofs.answering.answered.Reads as reads
 use Rattle.call.proofs.answering.answered.Lts as lts
 use Rattle.call.proofs.answering.clears.Reads as clears-reads
 use Rattle.call.proofs.answering.goes_on.Reads as goes-on-reads
-use Rattle.carriage.proofs.look.Reads as look-reads
-use Rattle.consequences.proofs.failed.Reads as failed-reads
+use Rattle.user_element.proofs.look.Reads as look-reads
+use Rattle.answering_rules.proofs.effects.failed.Reads as failed-reads
 
 look-requires : tie.Need-look-requires
 look-requires c κs = search needs

@@ -5,13 +5,13 @@ use Rattle.call.proofs.answering.goes_on.Statement.{statement}
 use Rattle.call.proofs.answering.goes_on.Tie as tie
 use Rattle.call.proofs.answering.goes_on.Reads as reads
 use Rattle.call.proofs.answering.goes_on.Lts as lts
-use Rattle.carriage.proofs.goes_out.Reads as goes-out-reads
-use Rattle.carriage.proofs.noted.Reads as noted-reads
-use Rattle.consequences.proofs.settles.Reads as settles-reads
-use Rattle.consequences.proofs.tells.Reads as tells-reads
-use Rattle.meters.proofs.in_force_after.Reads as in-force-after-reads
+use Rattle.user_element.proofs.goes_out.Reads as goes-out-reads
+use Rattle.user_element.proofs.noted.Reads as noted-reads
+use Rattle.answering_rules.proofs.effects.settles.Reads as settles-reads
+use Rattle.answering_rules.proofs.effects.tells.Reads as tells-reads
+use Rattle.answering_rules.proofs.effects.in_force_after.Reads as in-force-after-reads
 use Rattle.sent.proofs.saying.Reads as saying-reads
-use Rattle.standing.proofs.in_force.Reads as in-force-reads
+use Rattle.services.proofs.in_force.Reads as in-force-reads
 
 settles-requires : tie.Need-settles-requires
 settles-requires c κs = search needs

@@ -6,12 +6,12 @@ use Rattle.call.proofs.disconnect.passed_on.Tie as tie
 use Rattle.call.proofs.disconnect.passed_on.Reads as reads
 use Rattle.call.proofs.disconnect.passed_on.Lts as lts
 use Rattle.call.proofs.reply.reply_to.Reads as reply-to-reads
-use Rattle.carriage.proofs.goes_out.Reads as goes-out-reads
-use Rattle.carriage.proofs.noted.Reads as noted-reads
-use Rattle.closing.proofs.closing_facilities.Reads as closing-facilities-reads
-use Rattle.closing.proofs.closing_standing.Reads as closing-standing-reads
+use Rattle.user_element.proofs.goes_out.Reads as goes-out-reads
+use Rattle.user_element.proofs.noted.Reads as noted-reads
+use Rattle.clearing_rules.proofs.closing_facilities.Reads as closing-facilities-reads
+use Rattle.clearing_rules.proofs.closing_standing.Reads as closing-standing-reads
 use Rattle.sent.proofs.saying.Reads as saying-reads
-use Rattle.standing.proofs.in_force.Reads as in-force-reads
+use Rattle.services.proofs.in_force.Reads as in-force-reads
 
 closing-standing-requires : tie.Need-closing-standing-requires
 closing-standing-requires c κs = search needs

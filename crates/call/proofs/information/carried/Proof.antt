@@ -7,13 +7,13 @@ use Rattle.call.proofs.information.carried.Reads as reads
 use Rattle.call.proofs.information.carried.Lts as lts
 use Rattle.call.proofs.information.with_meters.Reads as with-meters-reads
 use Rattle.call.proofs.reply.reply_to.Reads as reply-to-reads
-use Rattle.meters.proofs.meter_of.Reads as meter-of-reads
-use Rattle.meters.proofs.spent.Reads as spent-reads
-use Rattle.passing.proofs.passage_answer.Reads as passage-answer-reads
-use Rattle.passing.proofs.to_receiver.Reads as to-receiver-reads
-use Rattle.passing.proofs.to_sender.Reads as to-sender-reads
-use Rattle.serving.proofs.served.Reads as served-reads
-use Rattle.standing.proofs.in_force.Reads as in-force-reads
+use Rattle.flow_meter.proofs.call_meters.meter_of.Reads as meter-of-reads
+use Rattle.flow_meter.proofs.call_meters.spent.Reads as spent-reads
+use Rattle.information_rules.proofs.messages.passage_answer.Reads as passage-answer-reads
+use Rattle.information_rules.proofs.messages.to_receiver.Reads as to-receiver-reads
+use Rattle.information_rules.proofs.messages.to_sender.Reads as to-sender-reads
+use Rattle.information_rules.proofs.served.Reads as served-reads
+use Rattle.services.proofs.in_force.Reads as in-force-reads
 
 meter-of-requires : tie.Need-meter-of-requires
 meter-of-requires c κs = search needs

@@ -7,8 +7,8 @@ use Rattle.call.proofs.reply.heard.Reads as reads
 use Rattle.call.proofs.reply.heard.Lts as lts
 use Rattle.call.proofs.Call.sound.Reads as sound-reads
 use Rattle.call.proofs.reply.refused.Reads as refused-reads
-use Rattle.numbers.proofs.first_bar.Reads as first-bar-reads
-use Rattle.numbers.proofs.taken.Reads as taken-reads
+use Rattle.answer.proofs.first_bar.Reads as first-bar-reads
+use Rattle.answer.proofs.taken.Reads as taken-reads
 
 sound-requires : tie.Need-sound-requires
 sound-requires c κs = search needs

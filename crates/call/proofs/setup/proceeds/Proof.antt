@@ -4,9 +4,9 @@ use Rattle.call.proofs.setup.proceeds.Statement.{statement}
 use Rattle.call.proofs.setup.proceeds.Tie as tie
 use Rattle.call.proofs.setup.proceeds.Reads as reads
 use Rattle.call.proofs.setup.proceeds.Lts as lts
-use Rattle.asking.proofs.nobody_asks.Reads as nobody-asks-reads
-use Rattle.meters.proofs.empty_meters.Reads as empty-meters-reads
-use Rattle.requests.proofs.opens.Reads as opens-reads
+use Rattle.facility_rules.proofs.nobody_asks.Reads as nobody-asks-reads
+use Rattle.flow_meter.proofs.call_meters.empty_meters.Reads as empty-meters-reads
+use Rattle.setup_rules.proofs.opens.Reads as opens-reads
 
 opens-requires : tie.Need-opens-requires
 opens-requires c κs = search needs

@@ -1,0 +1,62 @@
+-- What the fates of the services make of a call.
+use Rattle.cause.specs.declared.Cause.{Cause}
+use Rattle.services.specs.declared.Facilities.{Facilities}
+use Rattle.answering_rules.specs.declared.Fate.{Fate}
+use Rattle.answering_rules.specs.declared.Fates.{Fates}
+use Rattle.services.specs.declared.Said.{Said}
+use Rattle.services.specs.declared.Standing.{Standing}
+use Rattle.services.specs.declared.Standings.{Standings}
+use Rattle.cause.specs.Cause.{firstOf}
+use Prim.Native.Nat.{ℕ}
+use Rattle.flow_meter.specs.declared.call_meters.Meters.{Meters}
+use Rattle.flow_meter.specs.Meters.{grantsOf}
+
+abbrev pub settledOf : Standing → Fate → Standing
+settledOf s Fate.Kept = s
+settledOf s Fate.Accepted = Standing.InForce
+settledOf s Fate.Closed = Standing.Closed
+settledOf s (Fate.Failed n) = Standing.Closed
+
+-- "the message goes on with these answers": accepted, or "closed, rejectedByUser to the caller"
+abbrev pub toldOf : Fate → Said
+toldOf Fate.Kept = Said.Nothing
+toldOf Fate.Accepted = Said.Accepted
+toldOf Fate.Closed = Said.ByUser
+toldOf (Fate.Failed n) = Said.ByUser
+
+-- "DISCONNECT to the caller with rejectedByUser for each due service not accepted"
+abbrev pub declinedOf : Fate → Said
+declinedOf Fate.Kept = Said.Nothing
+declinedOf Fate.Accepted = Said.Nothing
+declinedOf Fate.Closed = Said.ByUser
+declinedOf (Fate.Failed n) = Said.ByUser
+
+abbrev pub failureOf : Fate → Cause
+failureOf Fate.Kept = Cause.Absent
+failureOf Fate.Accepted = Cause.Absent
+failureOf Fate.Closed = Cause.Absent
+failureOf (Fate.Failed n) = Cause.Value n
+
+-- "by the lowest failed required service"
+unfoldable pub failedOf : Fates → Cause
+failedOf f = firstOf (failureOf (f .one)) (firstOf (failureOf (f .two)) (failureOf (f .three)))
+
+unfoldable pub settlesOf : Standings → Fates → Standings
+settlesOf s f =
+    record {
+      one = settledOf (s .one) (f .one);
+      two = settledOf (s .two) (f .two);
+      three = settledOf (s .three) (f .three);
+    }
+
+unfoldable pub tellsOf : Fates → Facilities
+tellsOf f = record { one = toldOf (f .one); two = toldOf (f .two); three = toldOf (f .three) }
+
+unfoldable pub declinesOf : Fates → Facilities
+declinesOf f = record { one = declinedOf (f .one); two = declinedOf (f .two); three = declinedOf (f .three) }
+
+abbrev pub inForceAfterOf : Meters → ℕ → Fate → Meters
+inForceAfterOf m burst Fate.Kept = m
+inForceAfterOf m burst Fate.Accepted = grantsOf m burst
+inForceAfterOf m burst Fate.Closed = m
+inForceAfterOf m burst (Fate.Failed n) = m

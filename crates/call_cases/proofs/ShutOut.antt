@@ -1,0 +1,134 @@
+-- Instances of the promises on handling, and the cores shut out, computed.
+use Prim.Native.Nat.{ℕ}
+use mathlib.Core.List.{[]}
+use mathlib.Core.Logic.{inl}
+use mathlib.Core.Path.{_≡_, refl, ap, sym, _∙_}
+use native.Mathlib.Omega.{arith}
+use Rattle.rights.specs.declared.Service.{Service}
+use Rattle.services.specs.declared.Given.{Given}
+use Rattle.services.specs.declared.Standing.{Standing}
+use Rattle.sent.specs.declared.Sent.{Sent}
+use Rattle.phases.specs.declared.Phase.{Phase}
+use Rattle.event.specs.declared.Event.{Event}
+use Rattle.call.specs.declared.reply.Reply.{Reply}
+use Rattle.answer.specs.Answer.{numberOf}
+use Rattle.call.specs.Step.{stepOf}
+use Rattle.flow_meter.specs.Meter.{emptyOf, meterFitsOf, grantedOf, refilledOf, tickedOf}
+use Rattle.flow_meter.specs.Passage.{countedOf, spentOf, markedOf, underThreeOf, passageOf}
+use Rattle.user_element.specs.Element.{wellFormedOf, seenOf, goesOutOf}
+use Rattle.rights.specs.Rights.{rightsFitOf, referenceFitsOf, noRights}
+use Rattle.services.specs.Standing.{remainsOf, noServices}
+use Rattle.setup_rules.specs.Requests.{firstStandingOf, standingsOf, lacksOf, passedRequestsOf, networkRefusalsOf, setupPhaseOf, toCallerOf, toCalledOf, setupCarriesOf}
+use Rattle.answering_rules.specs.Fates.{alertingFatesOf, connectFatesOf}
+use Rattle.answering_rules.specs.Consequences.{failedOf, settlesOf, tellsOf, declinesOf}
+use Rattle.facility_rules.specs.Asking.{nobodyAsks, toRequestOf, toAnswerOf}
+use Rattle.facility_rules.specs.Telling.{aboutThreeOf}
+use Rattle.sent.specs.Message.{silence, sayingOf, bareOf, congestionOf, informsOf, onlyIfOf}
+use Rattle.flow_meter.specs.Meters.{emptyMeters, grantsOf}
+use Rattle.flow_meter.specs.Ticking.{tickedMetersOf, refillsOf, readyOf}
+use Rattle.call.specs.Sound.{freshCall, fieldsFitOf, soundOf, inPhaseOf}
+use Rattle.call.specs.Reply.{barOf, refusedOf, heardOf, replyOf}
+use Rattle.call.specs.Setup.{filledOf, proceedsOf, setupOf}
+use Rattle.call.specs.Answering.{answeredCallOf, goesOnOf, clearsOf, answeredOf, alertingOf, connectOf}
+use Rattle.call.specs.Information.{metersOf, informationPassageOf, carriedOf, withElementOf, informationOf}
+use Rattle.clearing_rules.specs.Closing.{silentAnswers, closingFacilitiesOf}
+use Rattle.call.specs.Disconnect.{closedCallOf, passedOnOf, disconnectOf}
+use Rattle.call.specs.Facility.{facilityVerdictOf, facilityCallOf, passesFacilityOf, facilityOf}
+use Rattle.call.specs.Tick.{runsOf, passesTickOf, tickOf}
+use Rattle.call_promises.specs.Numbers.{InForce}
+use Rattle.call_promises.specs.Sound.{runOf}
+use Rattle.call_cases.specs.Edges.{silent}
+use Rattle.call_promises.specs.Services.{standingFor, Taken, Requires, asked, alerting}
+use Rattle.call_cases.specs.Handed.{opening, connected, agreed, Handed, Held}
+use Rattle.call_cases.specs.ShutOut.{ShutOut}
+
+-- what is computed, all under one line that opens the definitions
+abbrev opened : Reply
+opened = stepOf freshCall (opening .event) (opening .element)
+
+abbrev presentOf : Sent → ℕ
+presentOf Sent.Absent = 0
+presentOf (Sent.Present m) = 1
+
+record Facts : Type 0 where
+  handed : Handed
+  taken : numberOf (opened .answer) ≡ 0
+  barred : numberOf (stepOf freshCall Event.Tick [] .answer) ≡ 11
+  sends : presentOf (opened .calling) ≡ 1
+  fresh : freshCall .phase ≡ Phase.Fresh
+  requested : opened .call .phase ≡ Phase.Requested
+  required : opened .call .standings .one ≡ Standing.Required
+  active : runOf freshCall connected .phase ≡ Phase.Active
+  one : InForce (runOf freshCall connected .standings .one)
+  two : InForce (runOf freshCall connected .standings .two)
+  three : InForce (runOf freshCall connected .standings .three)
+  by-facility : InForce (runOf freshCall agreed .standings .three)
+  answered : Taken (opened .call) (Event.Alerting silent) []
+  clearing : stepOf (opened .call) (Event.Alerting silent) [] .call .phase ≡ Phase.Clearing
+
+facts : Facts
+unfolding emptyOf meterFitsOf grantedOf countedOf spentOf markedOf underThreeOf passageOf wellFormedOf seenOf goesOutOf rightsFitOf referenceFitsOf remainsOf firstStandingOf standingsOf lacksOf passedRequestsOf networkRefusalsOf failedOf settlesOf tellsOf declinesOf silence nobodyAsks sayingOf bareOf congestionOf informsOf onlyIfOf noRights noServices emptyMeters freshCall fieldsFitOf soundOf inPhaseOf barOf refusedOf heardOf replyOf setupPhaseOf filledOf toCallerOf toCalledOf setupCarriesOf proceedsOf setupOf grantsOf answeredCallOf goesOnOf clearsOf alertingFatesOf connectFatesOf answeredOf alertingOf connectOf metersOf informationPassageOf carriedOf withElementOf informationOf refilledOf tickedOf toRequestOf toAnswerOf silentAnswers closingFacilitiesOf closedCallOf passedOnOf disconnectOf facilityVerdictOf facilityCallOf aboutThreeOf passesFacilityOf facilityOf tickedMetersOf refillsOf readyOf runsOf passesTickOf tickOf
+facts =
+    record {
+      handed = (refl, (refl, (refl, (refl, (refl, (refl, (refl, (refl, (refl, (refl, tt))))))))));
+      taken = refl;
+      barred = refl;
+      sends = refl;
+      fresh = refl;
+      requested = refl;
+      required = refl;
+      active = refl;
+      one = refl;
+      two = refl;
+      three = refl;
+      by-facility = refl;
+      answered = refl;
+      clearing = refl;
+    }
+
+pub handed : Handed
+handed = facts .handed
+
+-- all three services are required by the first event
+all-asked : (k : Service) → Requires k (opening .event) (opening .element)
+all-asked Service.One = asked refl
+all-asked Service.Two = asked refl
+all-asked Service.Three = asked refl
+
+all-in-force : (k : Service) → InForce (standingFor (runOf freshCall connected .standings) k)
+all-in-force Service.One = facts .one
+all-in-force Service.Two = facts .two
+all-in-force Service.Three = facts .three
+
+unanswered : Given.Silent ≡ Given.Accepted → ⊥
+unanswered e = let z : _≡_ {A = ℕ} 0 1 = cc in omega arith
+
+pub held : Held
+held =
+    record {
+      asked = λ k. record { before = []; event = opening; after = _; split = refl; holds = (facts .taken, all-asked k) };
+      active = facts .active;
+      in-force = all-in-force;
+      by-facility = facts .by-facility;
+      taken = facts .answered;
+      failing = alerting (inl (facts .required, unanswered));
+      clearing = facts .clearing;
+    }
+
+pub shut-out : ShutOut
+shut-out =
+    record {
+      refusing = λ a m.
+          let p = sym (facts .fresh) ∙ (ap (λ (r : Reply). r .call .phase) (m freshCall (opening .event) (opening .element)) ∙ facts .requested) in
+          let z : _≡_ {A = ℕ} 0 1 = cc in omega arith;
+      fixing = λ r m.
+          let p = ap (λ (r : Reply). numberOf (r .answer)) (m freshCall (opening .event) (opening .element)) ∙ facts .taken in
+          let q = ap (λ (r : Reply). numberOf (r .answer)) (m freshCall Event.Tick []) ∙ facts .barred in omega arith;
+      muting = λ f m.
+          let p = ap (λ (r : Reply). presentOf (r .calling)) (m freshCall (opening .event) (opening .element)) ∙ facts .sends in omega arith;
+      nodding = λ f m.
+          let p =
+          sym (facts .requested)
+          ∙ (ap (λ (r : Reply). r .call .phase) (m (opened .call) (Event.Alerting silent) []) ∙ facts .clearing) in
+          let z : _≡_ {A = ℕ} 0 1 = cc in omega arith;
+    }

@@ -1,0 +1,167 @@
+-- Every number and every note is met, so that no condition of the tables is void and no promise holds for want of cases.
+use Prim.Native.Nat.{ℕ}
+use mathlib.Core.List.{List, [], _∷_, _++_}
+use mathlib.Core.Bool.{true, false}
+use mathlib.Core.Path.{_≡_}
+use Rattle.cause.specs.declared.Cause.{Cause}
+use Rattle.services.specs.declared.Given.{Given}
+use Rattle.services.specs.declared.Request.{Request}
+use Rattle.services.specs.declared.Standing.{Standing}
+use Rattle.facility_rules.specs.declared.What.{What}
+use Rattle.message_types.specs.declared.Kind.{Kind}
+use Rattle.phases.specs.declared.Phase.{Phase}
+use Rattle.sent.specs.declared.side.Side.{Side}
+use Rattle.answer.specs.Answer.{numberOf}
+use Rattle.call.specs.declared.Call.{Call}
+use Rattle.event.specs.declared.Event.{Event}
+use Rattle.call.specs.Sound.{freshCall}
+use Rattle.call.specs.Step.{stepOf}
+use Rattle.call_promises.specs.Ranges.{Live}
+use Rattle.call_promises.specs.Sound.{Offered, runOf}
+use Rattle.call_promises.specs.Credit.{Account, purseOf, books, unopened}
+use Rattle.call_cases.specs.Edges.{nothing, message, Outcome, Case, AllHold, elementOf, rights, setup, silent, says}
+
+-- an event without an element
+abbrev pub bare : Event → Offered
+bare e = record { event = e; element = [] }
+
+-- a call in Active, with service 3 in force and two credits each way, and one with no service
+abbrev pub served : List Offered
+served =
+    setup 7 Request.Unasked Request.Unasked Request.Preferred 131 []
+    ∷ bare (Event.Connect (record { one = Given.Silent; two = Given.Silent; three = Given.Accepted }))
+    ∷ []
+
+abbrev pub unserved : List Offered
+unserved = setup 7 Request.Unasked Request.Unasked Request.Unasked 131 [] ∷ bare (Event.Connect silent) ∷ []
+
+-- a number, a note and a phase, with nothing sent
+abbrev pub quietly : ℕ → ℕ → Phase → Outcome
+quietly n note p = record { answer = n; note = note; phase = p; calling = nothing; called = nothing }
+
+abbrev pub instances : List Case
+instances =
+    record { before = served; event = bare Event.Tick; gives = quietly 0 0 Phase.Active }
+    ∷ record { before = []; event = bare (Event.Alerting silent); gives = quietly 11 0 Phase.Fresh }
+    ∷ record { before = served; event = bare Event.CallProceeding; gives = quietly 12 0 Phase.Active }
+    ∷ record { before = unserved; event = says Side.Called; gives = quietly 13 0 Phase.Active }
+    ∷ record {
+      before = served ++ (says Side.Called ∷ says Side.Called ∷ []);
+      event = says Side.Called;
+      gives =
+          record {
+            answer = 14;
+            note = 0;
+            phase = Phase.Active;
+            calling = nothing;
+            called = message Kind.CongestionControl (Cause.Value 43) false;
+          };
+    }
+    ∷ record {
+      before = served ++ (says Side.Called ∷ says Side.Called ∷ says Side.Called ∷ []);
+      event = says Side.Called;
+      gives = quietly 14 0 Phase.Active;
+    }
+    ∷ record {
+      before = unserved ++ (bare (Event.Facility Side.Calling What.Preferred) ∷ []);
+      event = bare (Event.Facility Side.Calling What.Preferred);
+      gives = quietly 15 0 Phase.Active;
+    }
+    ∷ record {
+      before = unserved;
+      event = bare (Event.Facility Side.Called What.Preferred);
+      gives =
+          record {
+            answer = 16;
+            note = 0;
+            phase = Phase.Active;
+            calling = nothing;
+            called = message Kind.Facility Cause.Absent false;
+          };
+    }
+    ∷ record { before = served; event = bare (Event.Information Side.Calling true); gives = quietly 17 0 Phase.Active }
+    ∷ record {
+      before = served;
+      event = record { event = Event.Information Side.Calling true; element = elementOf 2 };
+      gives = quietly 17 1 Phase.Active;
+    }
+    ∷ record {
+      before = served;
+      event = record { event = Event.Information Side.Calling true; element = elementOf 132 };
+      gives = quietly 17 2 Phase.Active;
+    }
+    ∷ record { before = served; event = bare (Event.Facility Side.Called What.Required); gives = quietly 18 0 Phase.Active }
+    ∷ record {
+      before = served;
+      event = bare (Event.Disconnect Side.Calling 128 silent);
+      gives = quietly 24 0 Phase.Active;
+    }
+    ∷ record {
+      before = served;
+      event = record { event = Event.Disconnect Side.Calling 16 silent; element = elementOf 4 };
+      gives =
+          record {
+            answer = 0;
+            note = 3;
+            phase = Phase.Clearing;
+            calling = nothing;
+            called = message Kind.Disconnect (Cause.Value 16) false;
+          };
+    }
+    ∷ []
+
+-- INSTANCES. Runs that are answered each number but 25, and have each note.
+abbrev pub Instances : Type 0
+Instances = AllHold instances
+
+-- a run that ends live, as the promise of sound records asks
+abbrev pub Reached : Type 0
+Reached = Live (runOf freshCall served .phase)
+
+-- a record that no run leads to: one credit more than X
+abbrev pub broken : Call
+broken =
+    record {
+      reference = 5;
+      rights = rights 7 131;
+      phase = Phase.Active;
+      standings = record { one = Standing.Closed; two = Standing.Closed; three = Standing.InForce };
+      asking = record { calling = false; called = false };
+      meters =
+          record {
+            calling = record { credit = 3; mark = false; count = 0 };
+            called = record { credit = 2; mark = false; count = 0 };
+          };
+    }
+
+abbrev pub Broken : Type 0
+Broken = numberOf (stepOf broken Event.Tick [] .answer) ≡ 25
+
+-- the paper's example: "SETUP of reference 5, rights 7 0 0 131 2 1, service 3 preferred; ALERTING; CONNECT accepting 3; four calling USER INFORMATION of
+-- 4 octets; tick; another; calling DISCONNECT cause 16; called RELEASE COMPLETE"
+abbrev pub example : List Offered
+example =
+    setup 7 Request.Unasked Request.Unasked Request.Preferred 131 []
+    ∷ bare (Event.Alerting silent)
+    ∷ bare (Event.Connect (record { one = Given.Silent; two = Given.Silent; three = Given.Accepted }))
+    ∷ says Side.Calling
+    ∷ says Side.Calling
+    ∷ says Side.Calling
+    ∷ says Side.Calling
+    ∷ bare Event.Tick
+    ∷ says Side.Calling
+    ∷ bare (Event.Disconnect Side.Calling 16 silent)
+    ∷ bare (Event.ReleaseComplete Side.Called)
+    ∷ []
+
+-- a direction's credit in the account, after each event
+abbrev pub creditsOf : Side → Account → List Offered → List ℕ
+creditsOf side a [] = []
+creditsOf side a (o ∷ os) =
+    purseOf (books a (o .event) (o .element)) side .credit ∷ creditsOf side (books a (o .event) (o .element)) os
+
+-- EXAMPLE. The account at work: two messages are paid, two are not, and the tick pays for one more.
+abbrev pub Example : Type 0
+Example =
+    (creditsOf Side.Calling unopened example ≡ 0 ∷ 0 ∷ 2 ∷ 1 ∷ 0 ∷ 0 ∷ 0 ∷ 1 ∷ 0 ∷ 0 ∷ 0 ∷ [])
+    × (creditsOf Side.Called unopened example ≡ 0 ∷ 0 ∷ 2 ∷ 2 ∷ 2 ∷ 2 ∷ 2 ∷ 2 ∷ 2 ∷ 2 ∷ 2 ∷ [])

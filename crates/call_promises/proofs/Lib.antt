@@ -1,0 +1,17 @@
+pub mod Failing
+pub mod Kept
+pub mod Phases
+pub mod Ranges
+pub mod Conditions
+pub mod Handling
+pub mod Heard
+pub mod Notes
+pub mod Numbers
+pub mod Refusals
+pub mod Seen
+pub mod Sound
+pub mod Beside
+pub mod Credit
+pub mod Granted
+pub mod MoreRights
+pub mod Required

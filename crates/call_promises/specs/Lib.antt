@@ -1,0 +1,9 @@
+pub mod Ranges
+pub mod Handling
+pub mod Notes
+pub mod Numbers
+pub mod Refusals
+pub mod Sound
+pub mod Credit
+pub mod MoreRights
+pub mod Services

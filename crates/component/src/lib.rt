@@ -1,2 +1,0 @@
-// What a Facility element says: one component. `forms` reads its body, `filling` writes the element.
-pub mod facility;

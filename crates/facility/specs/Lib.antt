@@ -1,0 +1,3 @@
+pub mod Facility
+pub mod Forms
+pub mod Filling

@@ -1,0 +1,3 @@
+pub mod Only
+pub mod Decide
+pub mod Tests

@@ -1,0 +1,4 @@
+pub mod Room
+pub mod Putting
+pub mod Numbers
+pub mod Stretch

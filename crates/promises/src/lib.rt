@@ -1,1 +1,0 @@
-// No code: `specs/` says what is promised of a call, over the definitions of `call`; `proofs/` proves it.

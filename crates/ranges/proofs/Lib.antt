@@ -1,4 +1,0 @@
-pub mod Failing
-pub mod Kept
-pub mod Phases
-pub mod Ranges

@@ -1,0 +1,182 @@
+// What SETUP asks for, held against the rights: how each service then stands, and what is said of it to each user.
+ghost use mathlib.Core.Path.{_≡_};
+ghost use Rattle.setup_rules.specs.Requests.{askedStandingOf, firstStandingOf, lackingOf, passedRequestOf, networkRefusalOf, decidedOf, openingOf};
+use cause::Cause;
+use cause::NOT_SUBSCRIBED;
+use message_types::Kind;
+use phases::Phase;
+use rights::Rights;
+use rights::Service;
+use rights::has;
+use sent::Sent;
+use sent::saying;
+use services::Facilities;
+use services::Request;
+use services::Requests;
+use services::Said;
+use services::Standing;
+use services::Standings;
+use services::remains;
+use user_element::Note;
+use user_element::Seen;
+use user_element::goes_out;
+use user_element::noted;
+use user_element::whole;
+
+// What a SETUP that is taken makes of the call: its phase, how each service stands, the element's note, and the two messages.
+pub struct Opening {
+    pub phase: Phase,
+    pub standings: Standings,
+    pub note: Note,
+    pub calling: Sent,
+    pub called: Sent,
+}
+
+// How a service stands after SETUP; `had` says whether the rights have it.
+fn asked_standing(q: Request, had: bool) -> Standing
+    ensures { λ r. ⌜ r ≡ askedStandingOf q had ⌝ }
+{
+    match q {
+        Request::Unasked => Standing::Unasked,
+        Request::Preferred => {
+            if had {
+                Standing::Preferred
+            } else {
+                Standing::Closed
+            }
+        }
+        Request::Required => {
+            if had {
+                Standing::Required
+            } else {
+                Standing::Closed
+            }
+        }
+    }
+}
+
+// Service 1 may be asked for by its element alone, and is then in force at once: nobody answers it.
+fn first_standing(q: Request, s: Seen, had: bool) -> Standing
+    ensures { λ r. ⌜ r ≡ firstStandingOf q s had ⌝ }
+{
+    let asked = asked_standing(q, had);
+    match q {
+        Request::Unasked => {
+            if whole(s) {
+                if had {
+                    Standing::InForce
+                } else {
+                    Standing::Closed
+                }
+            } else {
+                asked
+            }
+        }
+        Request::Preferred => asked,
+        Request::Required => asked,
+    }
+}
+
+// A required service that the rights lack.
+fn lacking(q: Request, had: bool) -> bool
+    ensures { λ r. ⌜ r ≡ lackingOf q had ⌝ }
+{
+    match q {
+        Request::Unasked => false,
+        Request::Preferred => false,
+        Request::Required => !had,
+    }
+}
+
+// What SETUP tells the called user.
+fn passed_request(q: Request, had: bool) -> Said
+    ensures { λ r. ⌜ r ≡ passedRequestOf q had ⌝ }
+{
+    match q {
+        Request::Unasked => Said::Nothing,
+        Request::Preferred => { if had { Said::Preferred } else { Said::Nothing } }
+        Request::Required => { if had { Said::Required } else { Said::Nothing } }
+    }
+}
+
+// What the caller is told of its request at once. Only an explicit request is answered.
+fn network_refusal(q: Request, had: bool) -> Said
+    ensures { λ r. ⌜ r ≡ networkRefusalOf q had ⌝ }
+{
+    match q {
+        Request::Unasked => Said::Nothing,
+        Request::Preferred => { if had { Said::Nothing } else { Said::ByNetwork } }
+        Request::Required => { if had { Said::Nothing } else { Said::ByNetwork } }
+    }
+}
+
+// `lacks` says whether the rights lack a required service, `carried` whether the message goes on with service 1.
+fn decided(
+    lacks: bool,
+    standings: Standings,
+    s: Seen,
+    carried: bool,
+    refusals: Facilities,
+    passed: Facilities,
+) -> Opening
+    ensures { λ r. ⌜ r ≡ decidedOf lacks standings s carried refusals passed ⌝ }
+{
+    let note = noted(s, carried);
+    if lacks {
+        Opening {
+            phase: Phase::Ended,
+            standings: standings,
+            note: note,
+            calling: saying(
+                Kind::ReleaseComplete,
+                Cause::Value(NOT_SUBSCRIBED),
+                refusals,
+                false,
+            ),
+            called: Sent::Absent,
+        }
+    } else {
+        Opening {
+            phase: Phase::Requested,
+            standings: standings,
+            note: note,
+            calling: saying(Kind::CallProceeding, Cause::Absent, refusals, false),
+            called: saying(Kind::Setup, Cause::Absent, passed, goes_out(s, carried)),
+        }
+    }
+}
+
+// The element goes on where the message does and service 1 remains.
+pub fn opens(rights: Rights, q: Requests, s: Seen) -> Opening
+    ensures { λ r. ⌜ r ≡ openingOf rights q s ⌝ }
+{
+    let one = q.one;
+    let two = q.two;
+    let three = q.three;
+    let has_one = has(rights, Service::One);
+    let has_two = has(rights, Service::Two);
+    let has_three = has(rights, Service::Three);
+    let lacks = lacking(one, has_one) | lacking(two, has_two) | lacking(three, has_three);
+    let first = first_standing(one, s, has_one);
+    let carried = !lacks & remains(first);
+    decided(
+        lacks,
+        Standings {
+            one: first,
+            two: asked_standing(two, has_two),
+            three: asked_standing(three, has_three),
+        },
+        s,
+        carried,
+        Facilities {
+            one: network_refusal(one, has_one),
+            two: network_refusal(two, has_two),
+            three: network_refusal(three, has_three),
+        },
+        Facilities {
+            one: passed_request(one, has_one),
+            two: passed_request(two, has_two),
+            three: passed_request(three, has_three),
+        },
+    )
+}

@@ -1,0 +1,11 @@
+use Rattle.table.specs.Settle.{refusalOf}
+use mathlib.Core.Path.{refl}
+use Rattle.table.proofs.settle.refusal.Statement.{statement}
+use Rattle.table.proofs.settle.refusal.Tie as tie
+
+returns : tie.Need-returns
+unfolding refusalOf
+returns c = refl
+
+pub refusal-spec : {M : Type 1} → statement M
+refusal-spec = tie.close (tie.spec returns)

@@ -1,0 +1,4 @@
+pub mod Lends
+pub mod Again
+pub mod Looks
+pub mod Planned

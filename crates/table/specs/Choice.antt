@@ -1,0 +1,62 @@
+-- Numbers 21 to 25: "25 comes first of 11 to 25; then the table gives 24, 22, 21 for SETUP and 23 for other events; then the call".
+use Prim.Native.Nat.{ℕ}
+use mathlib.Core.Bool.{Bool, true, false, cond, _&&_}
+use Rattle.rights.specs.Rights.{rightsFitOf, referenceFitsOf}
+use Rattle.answer.specs.declared.Answer.{Answer}
+use Rattle.event.specs.declared.Event.{Event}
+use Rattle.table.specs.declared.verdict.Verdict.{Verdict}
+use Rattle.table.specs.declared.choice.Choice.{Choice}
+use Rattle.table.specs.declared.choice.Wanted.{Wanted}
+use Rattle.table.specs.declared.choice.Found.{Found}
+
+-- what an event wants of the table: SETUP a place under its own reference, with "reference or rights out of range" or not; others that of a live call
+abbrev pub wantedOf : Event → Wanted
+wantedOf (Event.Setup reference rights requests) = Wanted.New reference (referenceFitsOf reference && rightsFitOf rights)
+wantedOf (Event.Alerting answers) = Wanted.Old
+wantedOf (Event.Connect answers) = Wanted.Old
+wantedOf (Event.Information side more) = Wanted.Old
+wantedOf (Event.Facility side what) = Wanted.Old
+wantedOf (Event.Disconnect side cause answers) = Wanted.Old
+wantedOf (Event.ReleaseComplete side) = Wanted.Old
+wantedOf Event.Tick = Wanted.Old
+wantedOf Event.CallProceeding = Wanted.Old
+wantedOf Event.CongestionControl = Wanted.Old
+
+-- the reference that an event is about, beside which n stands: SETUP has its own
+abbrev pub ownOr : ℕ → Wanted → ℕ
+ownOr n (Wanted.New own ranged) = own
+ownOr n Wanted.Old = n
+
+abbrev pub referenceOf : ℕ → Event → ℕ
+referenceOf n e = ownOr n (wantedOf e)
+
+abbrev pub isNew : Wanted → Bool
+isNew (Wanted.New own ranged) = true
+isNew Wanted.Old = false
+
+abbrev pub opensOf : Event → Bool
+opensOf e = isNew (wantedOf e)
+
+abbrev pub inRange : Wanted → Bool
+inRange (Wanted.New own ranged) = ranged
+inRange Wanted.Old = true
+
+abbrev pub rangedOf : Event → Bool
+rangedOf e = inRange (wantedOf e)
+
+-- "SETUP, reference held by a live call", then "SETUP, no free place"
+abbrev pub newPlaceOf : Found → Found → Choice
+newPlaceOf (Found.At i) free = Choice.Refused Verdict.Held
+newPlaceOf Found.Nothing (Found.At j) = Choice.At j
+newPlaceOf Found.Nothing Found.Nothing = Choice.Refused Verdict.NoPlace
+
+-- "other event, no live call of that reference"
+abbrev pub oldPlaceOf : Found → Choice
+oldPlaceOf (Found.At i) = Choice.At i
+oldPlaceOf Found.Nothing = Choice.Refused Verdict.NoCall
+
+unfoldable pub chooseOf : Bool → Event → Found → Found → Choice
+chooseOf whole e held free =
+    cond whole
+    (cond (opensOf e) (cond (rangedOf e) (newPlaceOf held free) (Choice.Refused (Verdict.Heard Answer.OutOfRange))) (oldPlaceOf held))
+    (Choice.Refused (Verdict.Heard Answer.Unsound))

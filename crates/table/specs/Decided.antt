@@ -1,0 +1,13 @@
+-- What an event makes of what the table shows, by value: what is put there, and what is answered.
+use Prim.Native.Nat.{ℕ}
+use mathlib.Core.List.{List}
+use Rattle.event.specs.declared.Event.{Event}
+use Rattle.table.specs.declared.plan.Looked.{Looked}
+use Rattle.table.specs.declared.plan.Put.{Put}
+use Rattle.table.specs.declared.plan.Plan.{Plan}
+use Rattle.table.specs.Settle.{settledOf, refusalOf}
+
+-- a number of the table's puts nothing
+abbrev pub planOf : Looked → Event → List ℕ → Plan
+planOf (Looked.At i c) e element = record { put = Put.At i (settledOf c e element .call); outcome = settledOf c e element .outcome }
+planOf (Looked.Refused v) e element = record { put = Put.Nothing; outcome = refusalOf v }

@@ -1,0 +1,52 @@
+-- What an event makes of the record that it goes to.
+use Prim.Native.Nat.{ℕ}
+use mathlib.Core.Bool.{Bool, true, false, cond}
+use mathlib.Core.List.{List}
+use Rattle.user_element.specs.declared.Note.{Note}
+use Rattle.answer.specs.declared.Answer.{Answer}
+use Rattle.sent.specs.declared.Sent.{Sent}
+use Rattle.call.specs.declared.Call.{Call}
+use Rattle.event.specs.declared.Event.{Event}
+use Rattle.call.specs.declared.reply.Reply.{Reply}
+use Rattle.call.specs.Sound.{freshCall}
+use Rattle.call.specs.Step.{stepOf}
+use Rattle.table.specs.declared.verdict.Verdict.{Verdict}
+use Rattle.table.specs.declared.settle.Outcome.{Outcome}
+use Rattle.table.specs.declared.settle.Settled.{Settled}
+use Rattle.table.specs.Choice.{opensOf}
+
+-- "SETUP fills the whole record, used for one call": it starts from a fresh one
+unfoldable pub subjectOf : Call → Event → Call
+subjectOf c e = cond (opensOf e) freshCall c
+
+-- "11 to 25 change no call, meter or table .., except: 14 may set the not-ready mark"
+abbrev pub changesOf : Answer → Bool
+changesOf Answer.Taken = true
+changesOf Answer.OutOfPhase = false
+changesOf Answer.NotAnEvent = false
+changesOf Answer.NoService = false
+changesOf Answer.Spent = true
+changesOf Answer.NotOpen = false
+changesOf Answer.NotGranted = false
+changesOf Answer.BadElement = false
+changesOf Answer.AskedRequired = false
+changesOf Answer.OutOfRange = false
+changesOf Answer.Unsound = false
+
+-- what a place that held c holds after the reply r
+unfoldable pub keptOf : Call → Reply → Call
+keptOf c r = cond (changesOf (r .answer)) (r .call) c
+
+unfoldable pub outcomeOf : Reply → Outcome
+outcomeOf r = record { verdict = Verdict.Heard (r .answer); note = r .note; calling = r .calling; called = r .called }
+
+-- a number of the table's: "send nothing", and "Every other refusal has note 0"
+unfoldable pub refusalOf : Verdict → Outcome
+refusalOf v = record { verdict = v; note = Note.Clear; calling = Sent.Absent; called = Sent.Absent }
+
+unfoldable pub settledOf : Call → Event → List ℕ → Settled
+settledOf c e element =
+    record {
+      call = keptOf c (stepOf (subjectOf c e) e element);
+      outcome = outcomeOf (stepOf (subjectOf c e) e element);
+    }

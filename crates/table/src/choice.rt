@@ -1,0 +1,101 @@
+// Which record an event goes to, or the number that the table gives.
+ghost use mathlib.Core.Path.{_≡_};
+ghost use Rattle.table.specs.Choice.{wantedOf, referenceOf, opensOf, newPlaceOf, oldPlaceOf, chooseOf};
+use crate::verdict::Verdict;
+use answer::Answer;
+use event::Event;
+use rights::reference_fits;
+use rights::rights_fit;
+
+// The place of a record, or that there is none.
+pub enum Found {
+    At(usize),
+    Nothing,
+}
+
+pub enum Choice {
+    At(usize),
+    Refused(Verdict),
+}
+
+// What an event wants of the table: SETUP a new place, under its own reference, with reference and rights in range or not; any
+// other event the place of a call that is there.
+pub enum Wanted {
+    New(u16, bool),
+    Old,
+}
+
+fn wants(event: Event) -> Wanted
+    ensures { λ r. ⌜ r ≡ wantedOf event ⌝ }
+{
+    match event {
+        Event::Setup {
+            reference,
+            rights,
+            requests,
+        } => Wanted::New(reference, reference_fits(reference) & rights_fit(rights)),
+        _ => Wanted::Old,
+    }
+}
+
+// The reference that an event is about: SETUP has its own.
+pub fn reference_of(reference: u16, event: Event) -> u16
+    ensures { λ r. ⌜ r ≡ referenceOf reference event ⌝ }
+{
+    match wants(event) {
+        Wanted::New(own, ranged) => own,
+        Wanted::Old => reference,
+    }
+}
+
+// SETUP opens a call.
+pub fn opens(event: Event) -> bool
+    ensures { λ r. ⌜ r ≡ opensOf event ⌝ }
+{
+    match wants(event) {
+        Wanted::New(own, ranged) => true,
+        Wanted::Old => false,
+    }
+}
+
+// A SETUP in range: 22, 21, or the lowest free place.
+fn new_place(held: Found, free: Found) -> Choice
+    ensures { λ r. ⌜ r ≡ newPlaceOf held free ⌝ }
+{
+    match held {
+        Found::At(i) => Choice::Refused(Verdict::Held),
+        Found::Nothing => match free {
+            Found::At(i) => Choice::At(i),
+            Found::Nothing => Choice::Refused(Verdict::NoPlace),
+        },
+    }
+}
+
+// Any other event: 23, or the live call's place.
+fn old_place(held: Found) -> Choice
+    ensures { λ r. ⌜ r ≡ oldPlaceOf held ⌝ }
+{
+    match held {
+        Found::At(i) => Choice::At(i),
+        Found::Nothing => Choice::Refused(Verdict::NoCall),
+    }
+}
+
+pub fn choose(whole: bool, event: Event, held: Found, free: Found) -> Choice
+    ensures { λ r. ⌜ r ≡ chooseOf whole event held free ⌝ }
+{
+    if whole {
+        match wants(event) {
+            Wanted::New(own, ranged) => {
+                if ranged {
+                    new_place(held, free)
+                } else {
+                    Choice::Refused(Verdict::Heard(Answer::OutOfRange))
+                }
+            }
+            Wanted::Old => old_place(held),
+        }
+    } else {
+        Choice::Refused(Verdict::Heard(Answer::Unsound))
+    }
+}

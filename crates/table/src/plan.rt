@@ -1,0 +1,93 @@
+// What an event makes of the table, decided by value: what is put there, and what is answered.
+ghost use mathlib.Core.Path.{_≡_};
+ghost use Rattle.table.specs.Plan.{rowOf, recordOf};
+ghost use Rattle.table.specs.declared.plan.Looked.{Looked};
+ghost use Rattle.table.specs.Decided.{planOf};
+use crate::settle::Outcome;
+use crate::settle::refusal;
+use crate::settle::settles;
+use crate::verdict::Verdict;
+use call::Call;
+use event::Event;
+
+// What the table shows of an event: the place that it goes to and the record there, or the number that the table gives.
+pub enum Looked {
+    At(usize, Call),
+    Refused(Verdict),
+}
+
+// What is put into the table: a record at a place, or nothing.
+pub enum Put {
+    At(usize, Call),
+    Nothing,
+}
+
+pub struct Plan {
+    pub put: Put,
+    pub outcome: Outcome,
+}
+
+pub fn met(i: usize, c: Call) -> Looked
+    ensures { λ r. ⌜ r ≡ Looked.At i c ⌝ }
+{
+    Looked::At(i, c)
+}
+
+pub fn barred(v: Verdict) -> Looked
+    ensures { λ r. ⌜ r ≡ Looked.Refused v ⌝ }
+{
+    Looked::Refused(v)
+}
+
+// The two parts of a plan.
+pub fn put_of(p: Plan) -> Put
+    ensures { λ r. ⌜ r ≡ p .put ⌝ }
+{
+    p.put
+}
+
+pub fn told(p: Plan) -> Outcome
+    ensures { λ r. ⌜ r ≡ p .outcome ⌝ }
+{
+    p.outcome
+}
+
+// Where something is put: nothing goes to the table's end, where there is no place.
+pub fn row(p: Put, end: usize) -> usize
+    ensures { λ r. ⌜ r ≡ rowOf p end ⌝ }
+{
+    match p {
+        Put::At(i, c) => i,
+        Put::Nothing => end,
+    }
+}
+
+pub fn record(p: Put) -> Call
+    ensures { λ r. ⌜ r ≡ recordOf p ⌝ }
+{
+    match p {
+        Put::At(i, c) => c,
+        Put::Nothing => Call::fresh(),
+    }
+}
+
+// Nothing is put anywhere yet: who holds the table may still leave it as it is.
+pub fn plans(l: Looked, event: Event, element: &[u8]) -> Plan
+    ensures { λ p. ⌜ p ≡ planOf l event (now (element .entry)) ⌝ }
+{
+    match l {
+        Looked::At(i, c) => {
+            let s = settles(c, event, element);
+            let next = s.call;
+            let o = s.outcome;
+            Plan {
+                put: Put::At(i, next),
+                outcome: o,
+            }
+        }
+        Looked::Refused(v) => Plan {
+            put: Put::Nothing,
+            outcome: refusal(v),
+        },
+    }
+}

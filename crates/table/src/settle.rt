@@ -1,0 +1,89 @@
+// What an event makes of the record that it goes to, by value.
+ghost use mathlib.Core.Path.{_≡_};
+ghost use Rattle.table.specs.Settle.{subjectOf, changesOf, keptOf, outcomeOf, refusalOf, settledOf};
+use crate::choice::opens;
+use crate::verdict::Verdict;
+use answer::Answer;
+use call::Call;
+use call::reply::Reply;
+use event::Event;
+use sent::Sent;
+use user_element::Note;
+
+// calling and called: what is sent to the calling and to the called user.
+pub struct Outcome {
+    pub verdict: Verdict,
+    pub note: Note,
+    pub calling: Sent,
+    pub called: Sent,
+}
+
+// call: what the place holds afterwards.
+pub struct Settled {
+    pub call: Call,
+    pub outcome: Outcome,
+}
+
+// SETUP starts a new call, whatever its place held.
+fn subject(c: Call, event: Event) -> Call
+    ensures { λ r. ⌜ r ≡ subjectOf c event ⌝ }
+{
+    if opens(event) { Call::fresh() } else { c }
+}
+
+// Of the refusals, only 14 may change a record.
+fn changes(a: Answer) -> bool
+    ensures { λ r. ⌜ r ≡ changesOf a ⌝ }
+{
+    match a {
+        Answer::Taken | Answer::Spent => true,
+        _ => false,
+    }
+}
+
+// What a place that held c holds after the reply.
+fn kept(c: Call, r: Reply) -> Call
+    ensures { λ k. ⌜ k ≡ keptOf c r ⌝ }
+{
+    let next = r.call;
+    let a = r.answer;
+    if changes(a) { next } else { c }
+}
+
+fn answered(r: Reply) -> Outcome
+    ensures { λ o. ⌜ o ≡ outcomeOf r ⌝ }
+{
+    let a = r.answer;
+    let note = r.note;
+    let calling = r.calling;
+    let called = r.called;
+    Outcome {
+        verdict: Verdict::Heard(a),
+        note: note,
+        calling: calling,
+        called: called,
+    }
+}
+
+// A number of the table's: nothing is noted and nothing sent.
+pub fn refusal(v: Verdict) -> Outcome
+    ensures { λ o. ⌜ o ≡ refusalOf v ⌝ }
+{
+    Outcome {
+        verdict: v,
+        note: Note::Clear,
+        calling: Sent::Absent,
+        called: Sent::Absent,
+    }
+}
+
+pub fn settles(c: Call, event: Event, element: &[u8]) -> Settled
+    ensures { λ r. ⌜ r ≡ settledOf c event (now (element .entry)) ⌝ }
+{
+    let s = subject(c, event);
+    let r = s.step(event, element);
+    Settled {
+        call: kept(c, r),
+        outcome: answered(r),
+    }
+}

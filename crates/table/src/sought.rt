@@ -1,0 +1,43 @@
+// One record of a table, looked at by value.
+ghost use mathlib.Core.Path.{_≡_};
+ghost use Rattle.table.specs.Look.{meetsOf, isAt, faultOf, laterOf};
+use crate::choice::Found;
+use call::Call;
+
+// What a table is looked through for: a free place, or the live record of a reference.
+pub enum Sought {
+    Free,
+    Live(u16),
+}
+
+pub fn meets(c: Call, sought: Sought) -> bool
+    ensures { λ r. ⌜ r ≡ meetsOf c sought ⌝ }
+{
+    match sought {
+        Sought::Free => !c.live(),
+        Sought::Live(reference) => c.live() & (c.reference == reference),
+    }
+}
+
+fn is_at(f: Found) -> bool
+    ensures { λ r. ⌜ r ≡ isAt f ⌝ }
+{
+    match f {
+        Found::At(i) => true,
+        Found::Nothing => false,
+    }
+}
+
+// f: where a later live record has the reference of c.
+pub fn at_fault(c: Call, f: Found) -> bool
+    ensures { λ r. ⌜ r ≡ faultOf c f ⌝ }
+{
+    if c.sound() { is_at(f) } else { true }
+}
+
+// Where to look for another record of the same reference: nowhere, if the record is not live.
+pub fn later(c: Call, next: usize, end: usize) -> usize
+    ensures { λ r. ⌜ r ≡ laterOf c next end ⌝ }
+{
+    if c.live() { next } else { end }
+}

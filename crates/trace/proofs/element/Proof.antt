@@ -1,0 +1,14 @@
+use Rattle.trace.specs.Recorded.{elementOf}
+use borrow.Author.Needs.{needs}
+use Rattle.trace.proofs.element.Statement.{statement}
+use Rattle.trace.proofs.element.Tie as tie
+
+stretch-requires : tie.Need-stretch-requires
+stretch-requires c κs = search needs
+
+returns : tie.Need-returns
+unfolding elementOf
+returns c = c .stretch .ensures
+
+pub element-spec : {M : Type 1} → statement M
+element-spec = tie.close (tie.spec stretch-requires returns)

@@ -1,0 +1,50 @@
+// The small numbers of a body: what an octet of a field says.
+ghost use mathlib.Core.Path.{_≡_};
+ghost use Rattle.trace.specs.Values.{flagOf, sideOf, requestOf, givenOf, whatOf};
+use facility_rules::What;
+use sent::side::Side;
+use services::Given;
+use services::Request;
+
+pub fn flag_in(x: u8) -> bool
+    ensures { λ r. ⌜ r ≡ flagOf x ⌝ }
+{
+    x != 0
+}
+
+pub fn side_in(x: u8) -> Side
+    ensures { λ r. ⌜ r ≡ sideOf x ⌝ }
+{
+    if x == 0 { Side::Calling } else { Side::Called }
+}
+
+pub fn request_in(x: u8) -> Request
+    ensures { λ r. ⌜ r ≡ requestOf x ⌝ }
+{
+    match x {
+        0 => Request::Unasked,
+        1 => Request::Preferred,
+        _ => Request::Required,
+    }
+}
+
+pub fn given_in(x: u8) -> Given
+    ensures { λ r. ⌜ r ≡ givenOf x ⌝ }
+{
+    match x {
+        0 => Given::Silent,
+        1 => Given::Accepted,
+        _ => Given::Rejected,
+    }
+}
+
+pub fn what_in(x: u8) -> What
+    ensures { λ r. ⌜ r ≡ whatOf x ⌝ }
+{
+    match x {
+        0 => What::Preferred,
+        1 => What::Accept,
+        2 => What::Reject,
+        _ => What::Required,
+    }
+}

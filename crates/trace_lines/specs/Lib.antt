@@ -1,0 +1,3 @@
+pub mod Notices
+pub mod Items
+pub mod Line

@@ -1,0 +1,9 @@
+pub mod Fronts
+pub mod Making
+pub mod Causes
+pub mod Lines
+pub mod Instances
+pub mod Ranged
+pub mod Records
+pub mod RoundTrip
+pub mod WholeRun

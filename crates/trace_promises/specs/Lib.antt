@@ -1,0 +1,4 @@
+pub mod Instances
+pub mod Records
+pub mod RoundTrip
+pub mod WholeRun

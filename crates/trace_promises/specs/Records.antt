@@ -1,0 +1,68 @@
+-- What is promised of the records of a trace, over the definitions. Each statement is a type; `proofs/Promises.antt` has its proof.
+use Prim.Native.Nat.{ℕ, _+_, _-_, _<_, _≤_}
+use mathlib.Core.List.{List}
+use mathlib.Core.Logic.{_⊎_}
+use mathlib.Core.Path.{_≡_}
+use lib.ListN.{length, getD}
+use Rattle.logic.specs.First.{Rows, end, row, Exactly}
+use Rattle.trace.specs.declared.kind.Kind.{Kind}
+use Rattle.trace.specs.declared.kind.Named.{Named}
+use Rattle.trace.specs.declared.Record.{Record}
+use Rattle.trace.specs.Kind.{kindOf, sizeOf}
+use Rattle.trace.specs.Reading.{faultNumber, recordOf}
+
+-- an event, or the end of the trace, has number 0
+abbrev pub recordNumber : Record → ℕ
+recordNumber Record.End = 0
+recordNumber (Record.Taken e) = 0
+recordNumber (Record.Refused f) = faultNumber f
+
+-- RECORDS. "An element field is n (0 for absent, or 2 to 131), the n octets beginning 126 and n − 2, then zeros to 132 in all."
+pub record Zeros (t : List ℕ) (p q : ℕ) : Type 0 where
+  pub zero : (i : ℕ) → p ≤ i → i < q → getD t i 0 ≡ 0
+
+pub record Held (t : List ℕ) (p : ℕ) : Type 0 where
+  pub least : 2 ≤ getD t p 0
+  pub most : getD t p 0 ≤ 131
+  pub first : getD t (p + 1) 0 ≡ 126
+  pub second : getD t (p + 2) 0 ≡ getD t p 0 - 2
+
+pub record Field (t : List ℕ) (p : ℕ) : Type 0 where
+  pub element : (getD t p 0 ≡ 0) ⊎ Held t p
+  pub after : Zeros t (p + 1 + getD t p 0) (p + 132)
+
+-- three octets from p on, each at most 2
+pub record Three (t : List ℕ) (p : ℕ) : Type 0 where
+  pub one : getD t p 0 ≤ 2
+  pub two : getD t (p + 1) 0 ≤ 2
+  pub three : getD t (p + 2) 0 ≤ 2
+
+-- "33: late, leave or side over 1, request or answer over 2, what over 3, cause over 127, element field not of that form."
+abbrev pub InRange : Kind → List ℕ → Type 0
+InRange Kind.Setup t = (getD t 4 0 ≤ 1) × (getD t 5 0 ≤ 1) × Three t 9 × Field t 12
+InRange Kind.Alerting t = Three t 3 × Field t 6
+InRange Kind.Connect t = Three t 3 × Field t 6
+InRange Kind.Information t = (getD t 3 0 ≤ 1) × Field t 4
+InRange Kind.Facility t = (getD t 3 0 ≤ 1) × (getD t 4 0 ≤ 3)
+InRange Kind.Disconnect t = (getD t 3 0 ≤ 1) × (getD t 4 0 ≤ 127) × Three t 5 × Field t 8
+InRange Kind.ReleaseComplete t = getD t 3 0 ≤ 1
+InRange Kind.Tick t = Unit {0}
+
+abbrev pub Short : Named → List ℕ → Type 0
+Short Named.Unknown t = ⊥
+Short (Named.Known k) t = length t < sizeOf k
+
+abbrev pub OutOfRange : Named → List ℕ → Type 0
+OutOfRange Named.Unknown t = ⊥
+OutOfRange (Named.Known k) t = InRange k t → ⊥
+
+-- "31, 32, 33: unknown kind; record cut short; field out of range; in this order", where the trace does not end here
+abbrev pub recordRows : List ℕ → Rows
+recordRows t =
+    row ((1 ≤ length t) × (kindOf (getD t 0 0) ≡ Named.Unknown)) 31
+    (row ((1 ≤ length t) × Short (kindOf (getD t 0 0)) t) 32
+    (row ((1 ≤ length t) × OutOfRange (kindOf (getD t 0 0)) t) 33 end))
+
+-- for every octet string at the front of a trace exactly one of an event (or the end), 31, 32, 33
+abbrev pub Records : Type 0
+Records = (t : List ℕ) → Exactly (recordRows t) (recordNumber (recordOf t))

@@ -1,0 +1,326 @@
+-- A piece that is being worked off: what is left of it makes up what the whole of it makes.
+use Prim.Native.Nat.{ℕ, zero, suc, _+_, _-_, _<_, _≤_}
+use mathlib.Core.List.{List, [], append-nil}
+use mathlib.Core.Bool.{Bool, true, false, cond, true≢false}
+use mathlib.Core.Path.{_≡_, refl, sym, ap, _∙_}
+use native.Mathlib.Omega.{arith}
+use borrow.Author.Tests.{le-leb, lt-leb, ltb-true, ltb-false, leb-true, leb-false}
+use lib.Dec.{leb, ltb, eqb}
+use lib.ListN.{length, getD, take, drop, length-append, length-drop, drop-of-length-le}
+use lib.Seq.{drop-drop, take-at}
+use Rattle.memory.specs.Room.{placed}
+use Rattle.memory.proofs.Pieces.{length-placed, placed-then}
+use Rattle.text.proofs.Pieced.{no-piece}
+use Rattle.call.specs.declared.Call.{Call}
+use Rattle.trace.specs.declared.kind.Kind.{Kind}
+use Rattle.trace.specs.declared.kind.Named.{Named}
+use Rattle.trace.specs.declared.Entry.{Entry}
+use Rattle.trace.specs.declared.Fault.{Fault}
+use Rattle.trace.specs.declared.Record.{Record}
+use Rattle.trace.specs.Kind.{sizeOf, kindOf}
+use Rattle.trace.specs.Reading.{recordOf, namedOf, entryOf, rangedOf}
+use Rattle.trace.specs.Recorded.{elementOf}
+use Rattle.trace.proofs.Sizes.{least}
+use Rattle.trace_lines.specs.Line.{lineOf}
+use Rattle.trace_lines.specs.Notices.{faultLine}
+use Rattle.trace_run.specs.declared.front.Front.{Front}
+use Rattle.trace_run.specs.declared.turn.Stand.{Stand}
+use Rattle.trace_run.specs.declared.turn.Move.{Move}
+use Rattle.table.specs.declared.settle.Outcome.{Outcome}
+use Rattle.table.specs.declared.plan.Looked.{Looked}
+use Rattle.table.specs.Halves.{lookOf, committed}
+use Rattle.table.proofs.step.Planned.{plan-told, plan-put}
+use Rattle.table_promises.proofs.Table.{one-place}
+use Rattle.trace_run.specs.Fronts.{heardOf, frontOf, referenceIn, eventIn}
+use Rattle.trace_run.specs.Entries.{columnsOf, plannedAt}
+use Rattle.trace_run.specs.Run.{turnedAt, lineAt, Ran, rests, ends, goes, runIn, runOf, soFar, WorkedOff}
+use Rattle.trace_run.specs.Turns.{halts}
+use Rattle.trace_run.specs.Move.{sizeIn, textIn, beginning, moveIn, Moved}
+
+-- nothing stands at the front of no octets
+pub front-empty : (last : Bool) (c : List ℕ) (i : ℕ) → length c ≤ i → frontOf last (drop i c) ≡ Front.Waits
+unfolding frontOf recordOf
+front-empty last c i h = rw (drop-of-length-le c {i = i} h)
+
+-- a whole record is no longer than the piece
+module _ (last : Bool) (t : List ℕ) where
+  cut-short : (b : Bool) → sizeIn (cond b (Front.Faulty Fault.Short) Front.Waits) ≤ length t
+  cut-short true = omega arith
+  cut-short false = omega arith
+
+  of-kind : (k : Kind) (a b : Bool) → ltb (length t) (sizeOf k) ≡ a → sizeIn (heardOf last (cond a (Record.Refused Fault.Short) (cond b (Record.Taken (entryOf k t)) (Record.Refused Fault.Range)))) ≤ length t
+  unfolding entryOf
+  of-kind k true b s = cut-short last
+  of-kind k false true s = ltb-false (length t) (sizeOf k) s
+  of-kind k false false s = omega arith
+
+  of-named : (n : Named) → sizeIn (heardOf last (namedOf n t)) ≤ length t
+  of-named Named.Unknown = omega arith
+  of-named (Named.Known k) = of-kind k (ltb (length t) (sizeOf k)) (rangedOf k t) refl
+
+  of-record : (b : Bool) → sizeIn (heardOf last (cond b Record.End (namedOf (kindOf (getD t 0 0)) t))) ≤ length t
+  of-record true = omega arith
+  of-record false = of-named (kindOf (getD t 0 0))
+
+  fits : sizeIn (frontOf last t) ≤ length t
+  unfolding frontOf recordOf
+  fits = of-record (eqb (length t) 0)
+
+pub front-fits : (last : Bool) (c : List ℕ) (i : ℕ) → i ≤ length c → i + sizeIn (frontOf last (drop i c)) ≤ length c
+front-fits last c i h = let f = fits last (drop i c) in omega (arith, rw length-drop at f)
+
+whole-fits : (last : Bool) (c : List ℕ) (i : ℕ) {e : Entry} → frontOf last (drop i c) ≡ Front.Whole e → sizeOf (e .kind) ≤ length c - i
+whole-fits last c i h = rw (h, length-drop) at (fits last (drop i c))
+
+-- a fault stands in front of something
+at-end : {f : Fault} (t : Bool) (last : Bool) (c : List ℕ) (i : ℕ) → ltb i (length c) ≡ t → frontOf last (drop i c) ≡ Front.Faulty f → i < length c
+at-end true last c i e h = ltb-true _ _ e
+at-end false last c i e h =
+    let w = front-empty last c i (ltb-false _ _ e) in
+    let z : _≡_ {A = ℕ} 0 1 = cc in
+    absurd (omega arith)
+
+faulty-some : (last : Bool) (c : List ℕ) (i : ℕ) {f : Fault} → frontOf last (drop i c) ≡ Front.Faulty f → i < length c
+faulty-some last c i h = at-end (ltb i (length c)) last c i refl h
+
+module _ (explained last : Bool) (room : ℕ) (table : List Call) (t : List ℕ) where
+  run-waits : (fuel : ℕ) → frontOf last t ≡ Front.Waits → runIn fuel explained last room table t ≡ rests table
+  unfolding runIn
+  run-waits zero h = refl
+  run-waits (suc k) h = rw h
+
+  run-faulty : (fuel : ℕ) {f : Fault} → 1 ≤ fuel → frontOf last t ≡ Front.Faulty f → runIn fuel explained last room table t ≡ cond (leb (length (faultLine f)) room) (ends table f) (rests table)
+  unfolding runIn
+  run-faulty zero k h = absurd (omega arith)
+  run-faulty (suc n) k h = rw h
+
+  abbrev after : ℕ → Entry → Ran
+  after fuel e = runIn fuel explained last (room - length (lineAt explained table e t)) (turnedAt table e t .calls) (drop (sizeOf (e .kind)) t)
+
+  run-whole : (fuel : ℕ) {e : Entry} → frontOf last t ≡ Front.Whole e → runIn (suc fuel) explained last room table t ≡ cond (leb (length (lineAt explained table e t)) room) (goes (sizeOf (e .kind)) (lineAt explained table e t) (after fuel e)) (rests table)
+  unfolding runIn
+  run-whole fuel h = rw h
+
+-- place i of the piece c is reached, with k octets of text written and at most as many records to come as there is fuel
+pub record Going (explained last : Bool) (first : List Call) (c l : List ℕ) (fuel : ℕ) (table : List Call) (out : List ℕ) (i k : ℕ) : Type 0 where
+  pub within : i ≤ length c
+  pub room : k ≤ length out
+  pub long : length out ≡ length l
+  pub enough : length c - i ≤ fuel
+  pub calls : runIn fuel explained last (length out - k) table (drop i c) .calls ≡ runOf explained last (length l) first c .calls
+  pub used : i + runIn fuel explained last (length out - k) table (drop i c) .used ≡ runOf explained last (length l) first c .used
+  pub wrote : k + length (runIn fuel explained last (length out - k) table (drop i c) .text) ≡ length (runOf explained last (length l) first c .text)
+  pub ended : runIn fuel explained last (length out - k) table (drop i c) .ended ≡ runOf explained last (length l) first c .ended
+  pub buffer : placed k (runIn fuel explained last (length out - k) table (drop i c) .text) out ≡ placed 0 (runOf explained last (length l) first c .text) l
+
+pub record Goes (explained last : Bool) (first : List Call) (c l : List ℕ) (table : List Call) (out : List ℕ) (i k : ℕ) : Type 0 where
+  pub fuel : ℕ
+  pub going : Going explained last first c l fuel table out i k
+
+pub start : (explained last : Bool) (first : List Call) (c l : List ℕ) → Goes explained last first c l first l 0 0
+unfolding runOf
+start explained last first c l =
+    let n : length l - 0 ≡ length l = omega arith in
+    record {
+      fuel = length c;
+      going =
+          record {
+            within = omega arith;
+            room = omega arith;
+            long = refl;
+            enough = omega arith;
+            calls = rw n;
+            used = rw n (omega arith);
+            wrote = rw n (omega arith);
+            ended = rw n;
+            buffer = rw n;
+          };
+    }
+
+module _ (explained last : Bool) (first : List Call) (c l : List ℕ) (table : List Call) (out : List ℕ) (i k : ℕ) where
+  abbrev toCome : ℕ → Ran
+  toCome fuel = runIn fuel explained last (length out - k) table (drop i c)
+
+  -- nothing is to come
+  stop : (fuel : ℕ) → Going explained last first c l fuel table out i k → toCome fuel ≡ rests table → WorkedOff explained last first c l out (record { calls = table; used = i; wrote = k; ended = false })
+  stop fuel g e =
+      record {
+        calls = rw e at (g .calls);
+        used = omega (arith, rw e at (g .used));
+        wrote = omega (arith, rw e at (g .wrote));
+        ended = rw e at (g .ended);
+        buffer = no-piece {at = k} {l = out} .octets ∙ (rw e at (g .buffer));
+      }
+
+  pub stop-waits : Goes explained last first c l table out i k → frontOf last (drop i c) ≡ Front.Waits → WorkedOff explained last first c l out (record { calls = table; used = i; wrote = k; ended = false })
+  stop-waits s h = stop (s .fuel) (s .going) (run-waits explained last (length out - k) table (drop i c) (s .fuel) h)
+
+  module _ {f : Fault} (s : Goes explained last first c l table out i k) (faulty : frontOf last (drop i c) ≡ Front.Faulty f) where
+    turns : toCome (s .fuel) ≡ cond (leb (length (faultLine f)) (length out - k)) (ends table f) (rests table)
+    turns = let h = faulty-some last c i faulty in run-faulty explained last (length out - k) table (drop i c) (s .fuel) (omega (arith, s .going .enough)) faulty
+
+    fault-full : length out < k + length (faultLine f) → WorkedOff explained last first c l out (record { calls = table; used = i; wrote = k; ended = false })
+    fault-full r =
+        let g = s .going in
+        let t = lt-leb (length (faultLine f)) (length out - k) (omega (arith, g .room, r)) in
+        stop (s .fuel) g (turns ∙ ap (λ (b : Bool). cond b (ends table f) (rests table)) t)
+
+    fault-put : k + length (faultLine f) ≤ length out → WorkedOff explained last first c l (placed k (faultLine f) out) (record { calls = table; used = i; wrote = k + length (faultLine f); ended = true })
+    fault-put r =
+        let g = s .going in
+        let t = le-leb (length (faultLine f)) (length out - k) (omega (arith, r)) in
+        let u : toCome (s .fuel) ≡ ends table f = turns ∙ ap (λ (b : Bool). cond b (ends table f) (rests table)) t in
+        record {
+          calls = rw u at (g .calls);
+          used = omega (arith, rw u at (g .used));
+          wrote = rw u at (g .wrote);
+          ended = rw u at (g .ended);
+          buffer = rw u at (g .buffer);
+        }
+
+  module _ (e : Entry) (whole : frontOf last (drop i c) ≡ Front.Whole e) where
+    abbrev line : List ℕ
+    line = lineAt explained table e (drop i c)
+
+    abbrev later : ℕ → Ran
+    later fuel = after explained last (length out - k) table (drop i c) fuel e
+
+    chosen : Bool → ℕ → Ran
+    chosen b fuel = cond b (goes (sizeOf (e .kind)) line (later fuel)) (rests table)
+
+    line-full : (fuel : ℕ) → Going explained last first c l fuel table out i k → length out < k + length line → WorkedOff explained last first c l out (record { calls = table; used = i; wrote = k; ended = false })
+    unfolding chosen
+    line-full zero g r =
+        let n = whole-fits last c i whole in
+        absurd (omega (arith, g .enough, least (e .kind)))
+    line-full (suc fuel) g r =
+        let t = lt-leb (length line) (length out - k) (omega (arith, g .room, r)) in
+        stop (suc fuel) g (run-whole explained last (length out - k) table (drop i c) fuel whole ∙ ap (λ (b : Bool). chosen b fuel) t)
+
+    module _ (r : k + length line ≤ length out) where
+      as-long : length (placed k line out) ≡ length out
+      as-long = length-placed k line out r
+
+      next : (fuel : ℕ) → toCome (suc fuel) ≡ goes (sizeOf (e .kind)) line (runIn fuel explained last (length (placed k line out) - (k + length line)) (turnedAt table e (drop i c) .calls) (drop (i + sizeOf (e .kind)) c))
+      unfolding chosen
+      next fuel =
+          let a = as-long in
+          let t = le-leb (length line) (length out - k) (omega (arith, r)) in
+          let left : length out - k - length line ≡ length (placed k line out) - (k + length line) = omega arith in
+          run-whole explained last (length out - k) table (drop i c) fuel whole ∙ ap (λ (b : Bool). chosen b fuel) t ∙ rw (left, drop-drop (sizeOf (e .kind)) i c)
+
+      line-put : (fuel : ℕ) → Going explained last first c l fuel table out i k → Goes explained last first c l (turnedAt table e (drop i c) .calls) (placed k line out) (i + sizeOf (e .kind)) (k + length line)
+      line-put zero g =
+          let n = whole-fits last c i whole in
+          absurd (omega (arith, g .enough, least (e .kind)))
+      line-put (suc f) g =
+          let n = whole-fits last c i whole in
+          let a = as-long in
+          record {
+            fuel = f;
+            going =
+                record {
+                  within = omega (arith, g .within);
+                  room = omega (arith, r);
+                  long = a ∙ g .long;
+                  enough = omega (arith, g .enough, least (e .kind));
+                  calls = rw (next f) at (g .calls);
+                  used = omega (arith, rw (next f) at (g .used));
+                  wrote = omega (arith, simp length-append at (rw (next f) at (g .wrote)));
+                  ended = rw (next f) at (g .ended);
+                  buffer = placed-then k line out r (runIn f explained last (length (placed k line out) - (k + length line)) (turnedAt table e (drop i c) .calls) (drop (i + sizeOf (e .kind)) c) .text) ∙ (rw (next f) at (g .buffer));
+                };
+          }
+
+-- the rest of the piece, as the code lends it on
+pub rest-is : (c : List ℕ) (i : ℕ) → take (length c - i) (drop i c) ≡ drop i c
+rest-is c i = ap (λ (l : List ℕ). take (length c - i) l) (sym (append-nil (drop i c))) ∙ take-at (drop i c) [] (length c - i) (rw length-drop)
+
+-- ---- turn by turn: a run that goes on makes up what the whole piece makes, and one that does not has made it
+pub record Kept (explained last : Bool) (first : List Call) (c l : List ℕ) (s : Stand) (table : List Call) (out : List ℕ) : Type 0 where
+  pub same : length table ≡ length first
+  pub long : length out ≡ length l
+  pub going : s .more ≡ true → Goes explained last first c l table out (s .used) (s .wrote)
+  pub over : s .more ≡ false → WorkedOff explained last first c l out (soFar table (s .used) (s .wrote) (s .ended))
+
+-- how much is left: less after each turn
+abbrev pub leftOf : List ℕ → Stand → ℕ
+leftOf c s = cond (s .more) (suc (length c - s .used)) 0
+
+pub starts : (explained last : Bool) (first : List Call) (c l : List ℕ) → Kept explained last first c l beginning first l
+starts explained last first c l = record { same = refl; long = refl; going = λ _. start explained last first c l; over = λ e. absurd (true≢false e) }
+
+module _ (explained last : Bool) (first : List Call) (c l : List ℕ) (s : Stand) (table : List Call) (out : List ℕ) (kept : Kept explained last first c l s table out) (more : s .more ≡ true) where
+  abbrev t : List ℕ
+  t = drop (s .used) c
+
+  abbrev goes-on : Goes explained last first c l table out (s .used) (s .wrote)
+  goes-on = kept .going more
+
+  -- what one turn comes to
+  pub record Onward (out' : List ℕ) (m : Move) : Type 0 where
+    pub kept' : Kept explained last first c l (m .stand) (committed table (m .put)) out'
+    pub less : leftOf c (m .stand) < leftOf c s
+
+  some-left : 0 < leftOf c s
+  some-left = rw more (omega arith)
+
+  halted : WorkedOff explained last first c l out (soFar table (s .used) (s .wrote) false) → Onward out (halts s)
+  halted w = record { kept' = record { same = kept .same; long = kept .long; going = λ e. absurd (true≢false (sym e)); over = λ _. w }; less = some-left }
+
+  shown : (e : Entry) → plannedAt (lookOf table (e .reference) (e .event)) e t .outcome ≡ turnedAt table e t .outcome
+  unfolding plannedAt turnedAt
+  shown e = plan-told table (e .reference) (e .event) (elementOf e t)
+
+  left-so : (e : Entry) → committed table (plannedAt (lookOf table (e .reference) (e .event)) e t .put) ≡ turnedAt table e t .calls
+  unfolding plannedAt turnedAt
+  left-so e = plan-put table (e .reference) (e .event) (elementOf e t)
+
+  line-so : (e : Entry) → textIn explained (Front.Whole e) (lookOf table (e .reference) (e .event)) t ≡ lineAt explained table e t
+  unfolding lineAt
+  line-so e = ap (λ (o : Outcome). lineOf explained (columnsOf e o)) (shown e)
+
+  same-so : (e : Entry) → length (turnedAt table e t .calls) ≡ length first
+  unfolding turnedAt
+  same-so e = one-place table (e .reference) (e .event) (elementOf e t) .same ∙ kept .same
+
+  abbrev turned : Front → Bool → Move
+  turned f b = cond b (moveIn f (lookOf table (referenceIn f) (eventIn f)) t (length (textIn explained f (lookOf table (referenceIn f) (eventIn f)) t)) s) (halts s)
+
+  abbrev left : Front → Bool → List ℕ
+  left f b = cond b (placed (s .wrote) (textIn explained f (lookOf table (referenceIn f) (eventIn f)) t) out) out
+
+  turn-by : (f : Front) (b : Bool) → frontOf last t ≡ f → leb (s .wrote + length (textIn explained f (lookOf table (referenceIn f) (eventIn f)) t)) (length out) ≡ b → Onward (left f b) (turned f b)
+  turn-by Front.Waits true h r = rw (sym (no-piece {at = s .wrote} {l = out} .octets)) (halted (stop-waits explained last first c l table out (s .used) (s .wrote) goes-on h))
+  turn-by Front.Waits false h r = halted (stop-waits explained last first c l table out (s .used) (s .wrote) goes-on h)
+  turn-by (Front.Faulty f) true h r =
+      let n = leb-true _ _ r in
+      record {
+        kept' =
+            record {
+              same = kept .same;
+              long = length-placed (s .wrote) (faultLine f) out n ∙ kept .long;
+              going = λ e. absurd (true≢false (sym e));
+              over = λ _. fault-put explained last first c l table out (s .used) (s .wrote) goes-on h n;
+            };
+        less = some-left;
+      }
+  turn-by (Front.Faulty f) false h r = halted (fault-full explained last first c l table out (s .used) (s .wrote) goes-on h (leb-false _ _ r))
+  turn-by (Front.Whole e) true h r =
+      let n = leb-true _ _ (rw (line-so e) at r) in
+      let w = whole-fits last c (s .used) h in
+      record {
+        kept' =
+            record {
+              same = rw (left-so e) (same-so e);
+              long = rw (line-so e) (length-placed (s .wrote) (lineAt explained table e t) out n ∙ kept .long);
+              going = λ _. rw (left-so e, line-so e) (line-put explained last first c l table out (s .used) (s .wrote) e h n (goes-on .fuel) (goes-on .going));
+              over = λ e. absurd (true≢false e);
+            };
+        less = rw more (omega (arith, least (e .kind)));
+      }
+  turn-by (Front.Whole e) false h r = halted (line-full explained last first c l table out (s .used) (s .wrote) e h (goes-on .fuel) (goes-on .going) (leb-false _ _ (rw (line-so e) at r)))
+
+  pub turns-on : {f : Front} {k : Looked} {out' : List ℕ} {m : Move} → f ≡ frontOf last t → k ≡ lookOf table (referenceIn f) (eventIn f) → Moved explained f k t s out out' m → Onward out' m
+  turns-on {f} {k} ef ek w =
+      rw (w .turn, w .buffer, ek) (turn-by f (leb (s .wrote + length (textIn explained f (lookOf table (referenceIn f) (eventIn f)) t)) (length out)) (sym ef) refl)
