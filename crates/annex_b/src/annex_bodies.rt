@@ -9,7 +9,7 @@ use facility::Service;
 use facility::Wish;
 
 // B.1: a request, for each service, preferred and required.
-pub fn requests() {
+pub(crate) fn requests() {
     reads_body(
         b"B.1 service 1 preferred",
         b"\x91\xA1\x0E\x02\x01\x05\x02\x01\x01\x30\x06\x81\x01\x01\x82\x01\xFF",
@@ -43,7 +43,7 @@ pub fn requests() {
 }
 
 // TRUE is any octet but 00. B.2 and B.3: a return result, and a return error with each error.
-pub fn answers() {
+pub(crate) fn answers() {
     reads_body(
         b"B.1 TRUE as 01",
         b"\x91\xA1\x0E\x02\x01\x05\x02\x01\x01\x30\x06\x81\x01\x01\x82\x01\x01",
@@ -68,7 +68,7 @@ pub fn answers() {
 }
 
 // Bodies that end too soon.
-pub fn cut_short() {
+pub(crate) fn cut_short() {
     reads_body(b"empty body", b"", b"-");
     reads_body(
         b"request cut short",
@@ -84,14 +84,14 @@ pub fn cut_short() {
 }
 
 // Octets about a component that are not those of one.
-pub fn damaged() {
+pub(crate) fn damaged() {
     reads_body(b"profile 92", b"\x92\xA2\x03\x02\x01\x05", b"-");
     reads_body(b"length one less", b"\x91\xA2\x02\x02\x01\x05", b"-");
     reads_body(b"an octet more", b"\x91\xA2\x03\x02\x01\x05\x00", b"-");
 }
 
 // Components that are none of those: reject, two of them, a length without an end, an invoke number too great.
-pub fn others() {
+pub(crate) fn others() {
     reads_body(b"reject A4", b"\x91\xA4\x06\x02\x01\x05\x80\x01\x00", b"-");
     reads_body(
         b"two components",
@@ -107,7 +107,7 @@ pub fn others() {
 }
 
 // Values that name nothing.
-pub fn unknown() {
+pub(crate) fn unknown() {
     reads_body(
         b"service 0",
         b"\x91\xA1\x0E\x02\x01\x05\x02\x01\x01\x30\x06\x81\x01\x00\x82\x01\xFF",
@@ -128,7 +128,7 @@ pub fn unknown() {
 }
 
 // The same requests, written.
-pub fn requests_written() {
+pub(crate) fn requests_written() {
     writes(
         b"write 1 preferred",
         Component::Invoke(5, Service::One, Wish::Preferred),
@@ -162,7 +162,7 @@ pub fn requests_written() {
 }
 
 // The same answers, written. No octets are given for what is refused, with 7.
-pub fn answers_written() {
+pub(crate) fn answers_written() {
     writes(
         b"write return result",
         Component::Accepted(5),

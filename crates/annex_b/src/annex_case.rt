@@ -11,7 +11,7 @@ fn say(text: &[u8]) {
     io::write_all(STDOUT_FILENO, text);
 }
 
-pub fn case(name: &[u8], found: &[u8], alike: bool) {
+pub(crate) fn case(name: &[u8], found: &[u8], alike: bool) {
     say(name);
     say(b": ");
     say(found);
@@ -48,7 +48,7 @@ fn untouched(buf: &[u8]) -> bool {
 }
 
 // What a writer answered; where it refused, nothing was to be written.
-pub fn wrote(name: &[u8], w: Wrote, buf: &[u8], expected: &[u8], number: u8) {
+pub(crate) fn wrote(name: &[u8], w: Wrote, buf: &[u8], expected: &[u8], number: u8) {
     match w {
         Wrote::To(n) => written(name, buf, n, expected),
         Wrote::Refused(b) => match b {

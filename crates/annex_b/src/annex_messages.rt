@@ -15,7 +15,7 @@ use message_fields::Width;
 use message_types::Kind;
 
 // Requests in SETUP.
-pub fn calls() {
+pub(crate) fn calls() {
     both(
         b"SETUP asks for 1",
         b"\x08\x01\x05\x05\x1C\x11\x91\xA1\x0E\x02\x01\x01\x02\x01\x01\x30\x06\x81\x01\x01\x82\x01\xFF\x7E\x03\x04\x48\x69",
@@ -29,7 +29,7 @@ pub fn calls() {
 }
 
 // The answers on the way back, and what they make possible.
-pub fn answers() {
+pub(crate) fn answers() {
     both(
         b"ALERTING accepts",
         b"\x08\x01\x85\x01\x1C\x06\x91\xA2\x03\x02\x01\x01",
@@ -63,7 +63,7 @@ pub fn answers() {
 }
 
 // Numbers 1 to 5.
-pub fn faults() {
+pub(crate) fn faults() {
     reads(b"empty message", b"", b"1 - - - - - - -");
     reads(b"message cut short", b"\x08\x01\x05", b"1 - - - - - - -");
     reads(
@@ -91,7 +91,7 @@ pub fn faults() {
 }
 
 // A message of 260 octets, and one of 261.
-pub fn longest() {
+pub(crate) fn longest() {
     let mut m = [0u8; 261];
     m[0] = 8;
     m[1] = 1;
@@ -104,7 +104,7 @@ pub fn longest() {
 }
 
 // Which elements count.
-pub fn counted() {
+pub(crate) fn counted() {
     reads(
         b"7E after a locking shift",
         b"\x08\x01\x05\x05\x96\x7E\x03\x04\x48\x69",
@@ -138,7 +138,7 @@ pub fn counted() {
 }
 
 // The first Cause, and the first three Facility elements that can be read.
-pub fn first_ones() {
+pub(crate) fn first_ones() {
     reads(
         b"second Cause",
         b"\x08\x01\x05\x45\x08\x02\x82\x90\x08\x02\x82\x9F",
@@ -187,7 +187,7 @@ fn plain(reference: u16) -> Message {
 }
 
 // A level where none belongs, and none where one does.
-pub fn refused() {
+pub(crate) fn refused() {
     let ready = given(Kind::Alerting, 5, Single::Ready, Facilities::Zero);
     let no_level = given(Kind::CongestionControl, 5, Single::Absent, Facilities::Zero);
     writes_message(b"level in ALERTING", ready, b"", b"");
@@ -195,7 +195,7 @@ pub fn refused() {
 }
 
 // Numbers and elements that cannot be written.
-pub fn out_of_range() {
+pub(crate) fn out_of_range() {
     let number = given(
         Kind::Alerting,
         5,
@@ -213,7 +213,7 @@ pub fn out_of_range() {
 }
 
 // 7 comes before 6.
-pub fn no_room() {
+pub(crate) fn no_room() {
     writes_message(b"ALERTING", plain(127), b"", b"\x08\x01\x7F\x01");
     writes_nowhere(b"no room", plain(127), b"", 6);
     writes_nowhere(b"no room and out of range", plain(128), b"", 7);

@@ -20,7 +20,7 @@ pub fn later(offset: u64, n: usize) -> u64
 }
 
 // A length of two octets, high octet first.
-pub fn size_of(high: u8, low: u8) -> usize
+pub(crate) fn size_of(high: u8, low: u8) -> usize
     ensures { λ r. ⌜ r ≡ high * 256 + low ⌝ }
 {
     high as usize * 256 + low as usize

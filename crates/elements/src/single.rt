@@ -25,7 +25,7 @@ fn level_in(k: Kind, level: Single) -> Single
 }
 
 // What a single octet says in a message of this kind.
-pub fn single_in(k: Kind, x: u8) -> Single
+pub(crate) fn single_in(k: Kind, x: u8) -> Single
     ensures { λ r. ⌜ r ≡ singleOf k x ⌝ }
 {
     match x {
@@ -36,7 +36,7 @@ pub fn single_in(k: Kind, x: u8) -> Single
     }
 }
 
-pub fn first_single(s: Single, new: Single) -> Single
+pub(crate) fn first_single(s: Single, new: Single) -> Single
     ensures { λ r. ⌜ r ≡ orSingle s new ⌝ }
 {
     match s {

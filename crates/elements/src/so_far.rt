@@ -22,7 +22,7 @@ pub struct Found {
     pub user: Place,
 }
 
-pub fn first_cause(c: Seen, body: &[u8]) -> Seen
+pub(crate) fn first_cause(c: Seen, body: &[u8]) -> Seen
     ensures { λ r. ⌜ r ≡ noteCause c (now (body .entry)) ⌝ }
 {
     match c {
@@ -31,7 +31,7 @@ pub fn first_cause(c: Seen, body: &[u8]) -> Seen
     }
 }
 
-pub fn with_facility(f: Facilities, new: Facility) -> Facilities
+pub(crate) fn with_facility(f: Facilities, new: Facility) -> Facilities
     ensures { λ r. ⌜ r ≡ noteFacility f new ⌝ }
 {
     match new {
@@ -45,7 +45,7 @@ pub fn with_facility(f: Facilities, new: Facility) -> Facilities
     }
 }
 
-pub fn first_place(p: Place, i: usize, n: usize) -> Place
+pub(crate) fn first_place(p: Place, i: usize, n: usize) -> Place
     ensures { λ r. ⌜ r ≡ notePlace p i n ⌝ }
 {
     match p {
@@ -54,7 +54,7 @@ pub fn first_place(p: Place, i: usize, n: usize) -> Place
     }
 }
 
-pub fn cause_seen(c: Seen) -> Cause
+pub(crate) fn cause_seen(c: Seen) -> Cause
     ensures { λ r. ⌜ r ≡ causeSeen c ⌝ }
 {
     match c {

@@ -8,7 +8,7 @@ pub mod lent;
 pub mod passage;
 
 // Messages that service 2 lets through in one direction.
-pub const GREATEST_COUNT: u8 = 2;
+pub(crate) const GREATEST_COUNT: u8 = 2;
 
 pub struct Meter {
     pub credit: u16,
@@ -16,7 +16,7 @@ pub struct Meter {
     pub count: u8,
 }
 
-pub fn empty() -> Meter
+pub(crate) fn empty() -> Meter
     ensures { λ r. ⌜ r ≡ emptyOf ⌝ }
 {
     Meter {
@@ -33,7 +33,7 @@ pub fn meter_fits(m: Meter, burst: u16) -> bool
 }
 
 // The meter as service 3 comes into force.
-pub fn granted(m: Meter, burst: u16) -> Meter
+pub(crate) fn granted(m: Meter, burst: u16) -> Meter
     ensures { λ r. ⌜ r ≡ grantedOf m burst ⌝ }
 {
     Meter {
@@ -58,7 +58,7 @@ fn refilled(credit: u16, burst: u16, refill: u16) -> u16
     }
 }
 
-pub fn ticked(m: Meter, burst: u16, refill: u16) -> Meter
+pub(crate) fn ticked(m: Meter, burst: u16, refill: u16) -> Meter
     ensures { λ r. ⌜ r ≡ tickedOf m burst refill ⌝ }
 {
     Meter {

@@ -48,7 +48,7 @@ pub fn passage_of(mut m: Meter, two: bool, three: bool) -> Passage
 }
 
 // The meter after a message: a message that is only dropped changes nothing.
-pub fn after(m: Meter, p: Passage) -> Meter
+pub(crate) fn after(m: Meter, p: Passage) -> Meter
     ensures { λ r. ⌜ r ≡ afterOf m p ⌝ }
 {
     match p {

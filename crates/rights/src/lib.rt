@@ -2,17 +2,17 @@
 ghost use mathlib.Core.Path.{_≡_};
 ghost use Rattle.rights.specs.Rights.{hasOf, rightsFitOf, referenceFitsOf, noRights};
 
-pub const GREATEST_SERVICES: u8 = 7;
+const GREATEST_SERVICES: u8 = 7;
 
-pub const LEAST_LIMIT: u8 = 3;
+const LEAST_LIMIT: u8 = 3;
 
-pub const GREATEST_LIMIT: u8 = 131;
+const GREATEST_LIMIT: u8 = 131;
 
 pub const GREATEST_BURST: u16 = 255;
 
 pub const GREATEST_REFILL: u16 = 255;
 
-pub const GREATEST_REFERENCE: u16 = 32767;
+const GREATEST_REFERENCE: u16 = 32767;
 
 pub enum Service {
     One,

@@ -39,7 +39,7 @@ fn wants(event: Event) -> Wanted
 }
 
 // The reference that an event is about: SETUP has its own.
-pub fn reference_of(reference: u16, event: Event) -> u16
+pub(crate) fn reference_of(reference: u16, event: Event) -> u16
     ensures { λ r. ⌜ r ≡ referenceOf reference event ⌝ }
 {
     match wants(event) {
@@ -49,7 +49,7 @@ pub fn reference_of(reference: u16, event: Event) -> u16
 }
 
 // SETUP opens a call.
-pub fn opens(event: Event) -> bool
+pub(crate) fn opens(event: Event) -> bool
     ensures { λ r. ⌜ r ≡ opensOf event ⌝ }
 {
     match wants(event) {
@@ -81,7 +81,7 @@ fn old_place(held: Found) -> Choice
     }
 }
 
-pub fn choose(whole: bool, event: Event, held: Found, free: Found) -> Choice
+pub(crate) fn choose(whole: bool, event: Event, held: Found, free: Found) -> Choice
     ensures { λ r. ⌜ r ≡ chooseOf whole event held free ⌝ }
 {
     if whole {

@@ -19,10 +19,10 @@ pub mod step;
 pub mod verdict;
 
 // Records that a table has at most.
-pub const GREATEST_TABLE: usize = 32;
+const GREATEST_TABLE: usize = 32;
 
 // The record at a place; a fresh one where the table has none.
-pub fn call_at(t: &[Call], i: usize) -> Call
+pub(crate) fn call_at(t: &[Call], i: usize) -> Call
     ensures { λ r. ⌜ r ≡ getD (now (t .entry)) i freshCall ⌝ }
 {
     if i < t.len() {
@@ -49,7 +49,7 @@ fn first_from(t: &[Call], start: usize, sought: Sought) -> Found
 }
 
 // The first live record of a reference.
-pub fn find(t: &[Call], reference: u16) -> Found
+pub(crate) fn find(t: &[Call], reference: u16) -> Found
     ensures { λ r. ⌜ r ≡ findFrom (now (t .entry)) 0 reference ⌝ }
 {
     let f = first_from(t, 0, Sought::Live(reference));
@@ -57,7 +57,7 @@ pub fn find(t: &[Call], reference: u16) -> Found
 }
 
 // The lowest free place.
-pub fn place(t: &[Call]) -> Found
+pub(crate) fn place(t: &[Call]) -> Found
     ensures { λ r. ⌜ r ≡ placeFrom (now (t .entry)) 0 ⌝ }
 {
     let f = first_from(t, 0, Sought::Free);
@@ -82,7 +82,7 @@ fn calls_sound(t: &[Call]) -> bool
 }
 
 // Not over 32 records, no two live ones of one reference, and every live one sound.
-pub fn sound(t: &[Call]) -> bool
+pub(crate) fn sound(t: &[Call]) -> bool
     ensures { λ r. ⌜ r ≡ tableSound (now (t .entry)) ⌝ }
 {
     if t.len() <= GREATEST_TABLE {

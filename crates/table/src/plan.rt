@@ -27,33 +27,33 @@ pub struct Plan {
     pub outcome: Outcome,
 }
 
-pub fn met(i: usize, c: Call) -> Looked
+pub(crate) fn met(i: usize, c: Call) -> Looked
     ensures { λ r. ⌜ r ≡ Looked.At i c ⌝ }
 {
     Looked::At(i, c)
 }
 
-pub fn barred(v: Verdict) -> Looked
+pub(crate) fn barred(v: Verdict) -> Looked
     ensures { λ r. ⌜ r ≡ Looked.Refused v ⌝ }
 {
     Looked::Refused(v)
 }
 
 // The two parts of a plan.
-pub fn put_of(p: Plan) -> Put
+pub(crate) fn put_of(p: Plan) -> Put
     ensures { λ r. ⌜ r ≡ p .put ⌝ }
 {
     p.put
 }
 
-pub fn told(p: Plan) -> Outcome
+pub(crate) fn told(p: Plan) -> Outcome
     ensures { λ r. ⌜ r ≡ p .outcome ⌝ }
 {
     p.outcome
 }
 
 // Where something is put: nothing goes to the table's end, where there is no place.
-pub fn row(p: Put, end: usize) -> usize
+pub(crate) fn row(p: Put, end: usize) -> usize
     ensures { λ r. ⌜ r ≡ rowOf p end ⌝ }
 {
     match p {
@@ -62,7 +62,7 @@ pub fn row(p: Put, end: usize) -> usize
     }
 }
 
-pub fn record(p: Put) -> Call
+pub(crate) fn record(p: Put) -> Call
     ensures { λ r. ⌜ r ≡ recordOf p ⌝ }
 {
     match p {

@@ -66,7 +66,7 @@ fn answered(r: Reply) -> Outcome
 }
 
 // A number of the table's: nothing is noted and nothing sent.
-pub fn refusal(v: Verdict) -> Outcome
+pub(crate) fn refusal(v: Verdict) -> Outcome
     ensures { λ o. ⌜ o ≡ refusalOf v ⌝ }
 {
     Outcome {
@@ -77,7 +77,7 @@ pub fn refusal(v: Verdict) -> Outcome
     }
 }
 
-pub fn settles(c: Call, event: Event, element: &[u8]) -> Settled
+pub(crate) fn settles(c: Call, event: Event, element: &[u8]) -> Settled
     ensures { λ r. ⌜ r ≡ settledOf c event (now (element .entry)) ⌝ }
 {
     let s = subject(c, event);

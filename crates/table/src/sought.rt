@@ -10,7 +10,7 @@ pub enum Sought {
     Live(u16),
 }
 
-pub fn meets(c: Call, sought: Sought) -> bool
+pub(crate) fn meets(c: Call, sought: Sought) -> bool
     ensures { λ r. ⌜ r ≡ meetsOf c sought ⌝ }
 {
     match sought {
@@ -29,14 +29,14 @@ fn is_at(f: Found) -> bool
 }
 
 // f: where a later live record has the reference of c.
-pub fn at_fault(c: Call, f: Found) -> bool
+pub(crate) fn at_fault(c: Call, f: Found) -> bool
     ensures { λ r. ⌜ r ≡ faultOf c f ⌝ }
 {
     if c.sound() { is_at(f) } else { true }
 }
 
 // Where to look for another record of the same reference: nowhere, if the record is not live.
-pub fn later(c: Call, next: usize, end: usize) -> usize
+pub(crate) fn later(c: Call, next: usize, end: usize) -> usize
     ensures { λ r. ⌜ r ≡ laterOf c next end ⌝ }
 {
     if c.live() { next } else { end }

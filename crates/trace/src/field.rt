@@ -3,7 +3,7 @@ ghost use mathlib.Core.Path.{_≡_};
 ghost use Rattle.trace.specs.Field.{blankOf, fieldFitsOf};
 
 // The octets that an element field has.
-pub const FIELD: usize = 132;
+const FIELD: usize = 132;
 
 // Whether every octet is zero.
 fn blank(s: &[u8]) -> bool
@@ -26,7 +26,7 @@ fn wide(x: u8) -> usize
 }
 
 // Whether an element field has its form: n, the n octets beginning 126 and n - 2, then zeros.
-pub fn field_fits(f: &[u8]) -> bool
+pub(crate) fn field_fits(f: &[u8]) -> bool
     ensures { λ r. ⌜ r ≡ fieldFitsOf (now (f .entry)) ⌝ }
 {
     if f.len() != FIELD {

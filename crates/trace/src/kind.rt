@@ -18,7 +18,7 @@ pub enum Named {
     Known(Kind),
 }
 
-pub fn kind_in(x: u8) -> Named
+pub(crate) fn kind_in(x: u8) -> Named
     ensures { λ r. ⌜ r ≡ kindOf x ⌝ }
 {
     match x {

@@ -6,19 +6,19 @@ use sent::side::Side;
 use services::Given;
 use services::Request;
 
-pub fn flag_in(x: u8) -> bool
+pub(crate) fn flag_in(x: u8) -> bool
     ensures { λ r. ⌜ r ≡ flagOf x ⌝ }
 {
     x != 0
 }
 
-pub fn side_in(x: u8) -> Side
+pub(crate) fn side_in(x: u8) -> Side
     ensures { λ r. ⌜ r ≡ sideOf x ⌝ }
 {
     if x == 0 { Side::Calling } else { Side::Called }
 }
 
-pub fn request_in(x: u8) -> Request
+pub(crate) fn request_in(x: u8) -> Request
     ensures { λ r. ⌜ r ≡ requestOf x ⌝ }
 {
     match x {
@@ -28,7 +28,7 @@ pub fn request_in(x: u8) -> Request
     }
 }
 
-pub fn given_in(x: u8) -> Given
+pub(crate) fn given_in(x: u8) -> Given
     ensures { λ r. ⌜ r ≡ givenOf x ⌝ }
 {
     match x {
@@ -38,7 +38,7 @@ pub fn given_in(x: u8) -> Given
     }
 }
 
-pub fn what_in(x: u8) -> What
+pub(crate) fn what_in(x: u8) -> What
     ensures { λ r. ⌜ r ≡ whatOf x ⌝ }
 {
     match x {

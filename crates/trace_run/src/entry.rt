@@ -11,14 +11,14 @@ use trace::element;
 use trace_lines::report::Columns;
 
 // The record's event, at what the table shows of it.
-pub fn planned(l: Looked, e: Entry, t: &[u8]) -> Plan
+pub(crate) fn planned(l: Looked, e: Entry, t: &[u8]) -> Plan
     ensures { λ r. ⌜ r ≡ plannedAt l e (now (t .entry)) ⌝ }
 {
     let event = e.event;
     plans(l, event, element(t, e))
 }
 
-pub fn columns_of(e: Entry, o: Outcome) -> Columns
+pub(crate) fn columns_of(e: Entry, o: Outcome) -> Columns
     ensures { λ r. ⌜ r ≡ columnsOf e o ⌝ }
 {
     let kind = e.kind;

@@ -14,7 +14,7 @@ pub enum Front {
     Whole(Entry),
 }
 
-pub fn front_of(last: bool, t: &[u8]) -> Front
+pub(crate) fn front_of(last: bool, t: &[u8]) -> Front
     ensures { λ f. ⌜ f ≡ frontOf last (now (t .entry)) ⌝ }
 {
     match read_record(t) {
@@ -28,7 +28,7 @@ pub fn front_of(last: bool, t: &[u8]) -> Front
 }
 
 // What the front asks of the table: where there is no whole record, something that is not heeded.
-pub fn reference_in(f: Front) -> u16
+pub(crate) fn reference_in(f: Front) -> u16
     ensures { λ r. ⌜ r ≡ referenceIn f ⌝ }
 {
     match f {
@@ -37,7 +37,7 @@ pub fn reference_in(f: Front) -> u16
     }
 }
 
-pub fn event_in(f: Front) -> Event
+pub(crate) fn event_in(f: Front) -> Event
     ensures { λ r. ⌜ r ≡ eventIn f ⌝ }
 {
     match f {

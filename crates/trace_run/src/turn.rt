@@ -23,7 +23,7 @@ pub struct Move {
     pub stand: Stand,
 }
 
-pub fn moves(put: Put, used: usize, wrote: usize, ended: bool, more: bool) -> Move
+pub(crate) fn moves(put: Put, used: usize, wrote: usize, ended: bool, more: bool) -> Move
     ensures { λ r. ⌜ r ≡ moveTo put used wrote ended more ⌝ }
 {
     Move {
@@ -38,7 +38,7 @@ pub fn moves(put: Put, used: usize, wrote: usize, ended: bool, more: bool) -> Mo
 }
 
 // A text that was written has its turn; one that had no room stops the run where it stands.
-pub fn once_written(w: Wrote, put: Put, used: usize, ended: bool, more: bool, s: Stand) -> Move
+pub(crate) fn once_written(w: Wrote, put: Put, used: usize, ended: bool, more: bool, s: Stand) -> Move
     ensures { λ r. ⌜ r ≡ onceWritten w put used ended more s ⌝ }
 {
     let i = s.used;
@@ -50,7 +50,7 @@ pub fn once_written(w: Wrote, put: Put, used: usize, ended: bool, more: bool, s:
 }
 
 // A fault prints its line and ends the run.
-pub fn fault_turn(x: Fault, out: &mut [u8], s: Stand) -> Move
+pub(crate) fn fault_turn(x: Fault, out: &mut [u8], s: Stand) -> Move
     ensures { λ r. ⌜ Printed (faultLine x) (faultMove (length (faultLine x)) s) s (now (out .entry)) (now (out .exit)) r ⌝ }
 {
     let i = s.used;

@@ -5,9 +5,9 @@ ghost use Rattle.user_element.specs.Element.{wellFormedOf, seenOf, whole
 pub mod writable;
 
 // An element shorter than this holds nothing.
-pub const LEAST_ELEMENT: usize = 3;
+const LEAST_ELEMENT: usize = 3;
 // The identifier with which a user-user element begins.
-pub const USER_USER: u8 = 126;
+const USER_USER: u8 = 126;
 
 pub enum Seen {
     Absent,

@@ -91,7 +91,7 @@ fn facilities_fit(f: Facilities) -> bool
 }
 
 // Whether every field is in range.
-pub fn message_fits(w: Message, user: &[u8]) -> bool
+pub(crate) fn message_fits(w: Message, user: &[u8]) -> bool
     ensures { λ t. ⌜ t ≡ messageFits w (now (user .entry)) ⌝ }
 {
     let h = w.header;

@@ -62,7 +62,7 @@ fn facilities_size(f: Facilities) -> usize
 }
 
 // How many octets the message has before its user-user element.
-pub fn front_size(w: Message) -> usize
+pub(crate) fn front_size(w: Message) -> usize
     ensures { λ r. ⌜ (r ≡ length (frontOctets w)) × (r ≤ 67) ⌝ }
 {
     let h = w.header;
