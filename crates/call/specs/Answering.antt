@@ -58,13 +58,13 @@ clearsOf c cause f seen =
     }
 
 -- the cause is that of a failure, if there is one
-abbrev pub outcomeOf : Call → Kind → Phase → Fates → Seen → Cause → Reply
-outcomeOf c kind next f seen Cause.Absent = goesOnOf c kind next f seen
-outcomeOf c kind next f seen (Cause.Value n) = clearsOf c n f seen
+abbrev pub answeringOf : Call → Kind → Phase → Fates → Seen → Cause → Reply
+answeringOf c kind next f seen Cause.Absent = goesOnOf c kind next f seen
+answeringOf c kind next f seen (Cause.Value n) = clearsOf c n f seen
 
 -- one message with answers
 unfoldable pub answeredOf : Call → Kind → Phase → Fates → List ℕ → Reply
-answeredOf c kind next f e = outcomeOf c kind next f (seenOf e (c .rights .limit)) (failedOf f)
+answeredOf c kind next f e = answeringOf c kind next f (seenOf e (c .rights .limit)) (failedOf f)
 
 -- "ALERTING (Requested)."
 unfoldable pub alertingOf : Call → Answers → List ℕ → Reply

@@ -2,7 +2,7 @@
 use mathlib.Core.Logic.{inl, inr}
 use mathlib.Core.Path.{refl}
 use Rattle.flow_meter.specs.Meter.{emptyOf, meterFitsOf, grantedOf, refilledOf, tickedOf}
-use Rattle.flow_meter.specs.Passage.{countedOf, spentOf, markedOf, underThreeOf, passageOf}
+use Rattle.flow_meter.specs.Passage.{countedOf, paidOf, markedOf, underThreeOf, passageOf}
 use Rattle.user_element.specs.Element.{wellFormedOf, seenOf, goesOutOf}
 use Rattle.rights.specs.Rights.{rightsFitOf, referenceFitsOf, noRights}
 use Rattle.services.specs.Standing.{remainsOf, noServices}
@@ -29,7 +29,7 @@ use Rattle.call_cases.specs.Instances.{Instances, Reached, Broken, Examp
 
 -- all under one line that opens the definitions
 computed : Edges × Instances × Reached × Broken × Example
-unfolding emptyOf meterFitsOf grantedOf countedOf spentOf markedOf underThreeOf passageOf wellFormedOf seenOf goesOutOf rightsFitOf referenceFitsOf remainsOf firstStandingOf standingsOf lacksOf passedRequestsOf networkRefusalsOf failedOf settlesOf tellsOf declinesOf silence nobodyAsks sayingOf bareOf congestionOf informsOf onlyIfOf noRights noServices emptyMeters freshCall fieldsFitOf soundOf inPhaseOf barOf refusedOf heardOf replyOf setupPhaseOf filledOf toCallerOf toCalledOf setupCarriesOf proceedsOf setupOf grantsOf answeredCallOf goesOnOf clearsOf alertingFatesOf connectFatesOf answeredOf alertingOf connectOf metersOf informationPassageOf carriedOf withElementOf informationOf refilledOf tickedOf toRequestOf toAnswerOf silentAnswers closingFacilitiesOf closedCallOf passedOnOf disconnectOf facilityVerdictOf facilityCallOf aboutThreeOf passesFacilityOf facilityOf tickedMetersOf refillsOf readyOf runsOf passesTickOf tickOf notAnEventOf
+unfolding emptyOf meterFitsOf grantedOf countedOf paidOf markedOf underThreeOf passageOf wellFormedOf seenOf goesOutOf rightsFitOf referenceFitsOf remainsOf firstStandingOf standingsOf lacksOf passedRequestsOf networkRefusalsOf failedOf settlesOf tellsOf declinesOf silence nobodyAsks sayingOf bareOf congestionOf informsOf onlyIfOf noRights noServices emptyMeters freshCall fieldsFitOf soundOf inPhaseOf barOf refusedOf heardOf replyOf setupPhaseOf filledOf toCallerOf toCalledOf setupCarriesOf proceedsOf setupOf grantsOf answeredCallOf goesOnOf clearsOf alertingFatesOf connectFatesOf answeredOf alertingOf connectOf metersOf informationPassageOf carriedOf withElementOf informationOf refilledOf tickedOf toRequestOf toAnswerOf silentAnswers closingFacilitiesOf closedCallOf passedOnOf disconnectOf facilityVerdictOf facilityCallOf aboutThreeOf passesFacilityOf facilityOf tickedMetersOf refillsOf readyOf runsOf passesTickOf tickOf notAnEventOf
 computed = ((refl, (refl, (refl, (refl, (refl, (refl, (refl, (refl, (refl, tt))))))))), (refl, (refl, (refl, (refl, (refl, (refl, (refl, (refl, (refl, (refl, (refl, (refl, (refl, (refl, tt)))))))))))))), inl (inr (inr refl)), refl, (refl, refl))
 
 pub edges : Edges

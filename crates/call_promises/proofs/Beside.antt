@@ -17,7 +17,7 @@ use Rattle.sent.specs.declared.side.Side.{Side}
 use Rattle.call.specs.declared.Call.{Call}
 use Rattle.flow_meter.specs.declared.call_meters.Meters.{Meters}
 use Rattle.flow_meter.specs.Meter.{grantedOf, refilledOf, tickedOf}
-use Rattle.flow_meter.specs.Passage.{countedOf, spentOf, markedOf, underThreeOf, passageOf, afterOf}
+use Rattle.flow_meter.specs.Passage.{countedOf, paidOf, markedOf, underThreeOf, passageOf, afterOf}
 use Rattle.rights.specs.Rights.{hasOf}
 use Rattle.services.specs.Standing.{inForceOf, remainsOf}
 use Rattle.answering_rules.specs.Fates.{decidedOf}
@@ -172,7 +172,7 @@ abbrev Viewed : (two three : Bool) → Meter → Passage → Type 0
 Viewed two three m p = View two three m (passesOf p) (afterOf m p)
 
 under-view : (two three : Bool) (m : Meter) → (two ≡ true → 2 ≤ m .count) → three ≡ true → Viewed two three m (underThreeOf m)
-unfolding underThreeOf spentOf markedOf
+unfolding underThreeOf paidOf markedOf
 under-view two three m h p =
     by-cond (Viewed two three m) (ltb 0 (m .credit)) (λ q. pays h p (omega (arith, ltb-true)) refl)
     (λ q.

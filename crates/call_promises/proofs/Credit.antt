@@ -32,7 +32,7 @@ use Rattle.event.specs.declared.Event.{Event}
 use Rattle.flow_meter.specs.declared.call_meters.Meters.{Meters}
 use Rattle.call.specs.declared.reply.Reply.{Reply}
 use Rattle.flow_meter.specs.Meter.{emptyOf, grantedOf, refilledOf, tickedOf}
-use Rattle.flow_meter.specs.Passage.{countedOf, spentOf, markedOf, underThreeOf, passageOf, afterOf}
+use Rattle.flow_meter.specs.Passage.{countedOf, paidOf, markedOf, underThreeOf, passageOf, afterOf}
 use Rattle.cause.specs.Cause.{firstOf}
 use Rattle.user_element.specs.Element.{wellFormedOf, seenOf, wholeOf}
 use Rattle.services.specs.Standing.{inForceOf, noServices}
@@ -47,7 +47,7 @@ use Rattle.information_rules.specs.Passing.{passageAnswerOf}
 use Rattle.sent.specs.Side.{peerOf}
 use Rattle.flow_meter.specs.Meters.{grantsOf, emptyMeters}
 use Rattle.flow_meter.specs.Ticking.{tickedMetersOf, refillsOf}
-use Rattle.call.specs.Answering.{answeredCallOf, goesOnOf, clearsOf, outcomeOf, answeredOf, alertingOf, connectOf}
+use Rattle.call.specs.Answering.{answeredCallOf, goesOnOf, clearsOf, answeringOf, answeredOf, alertingOf, connectOf}
 use Rattle.call.specs.Disconnect.{closedCallOf, passedOnOf, disconnectOf, endsOf, releaseCompleteOf}
 use Rattle.call.specs.Facility.{facilityVerdictOf, facilityCallOf, passesFacilityOf, facilityOf}
 use Rattle.call.specs.Information.{metersOf, informationPassageOf, carriedOf, withElementOf, informationOf}
@@ -287,7 +287,7 @@ serves-three Phase.Ended f = refl
 
 module _ (m : Meter) where
   under-pays : (b : Bool) → ltb 0 (m .credit) ≡ b → pays false b (purse m) ≡ purse (afterOf m (underThreeOf m))
-  unfolding underThreeOf spentOf markedOf
+  unfolding underThreeOf paidOf markedOf
   under-pays true e = rw e refl
   under-pays false e = rw e (by-cond (λ p. purse m ≡ purse (afterOf m p)) (m .mark) (λ _. refl) (λ _. refl))
 
@@ -342,7 +342,7 @@ module _ (c : Call) (q : Requests) (d : Due (c .phase) q (c .standings)) where
   kept : Agrees a c
   kept = record { requests = q; same = refl; due = d }
 
-  outcome-agrees : (kind : Kind) (next : Phase) (f : Fates) (seen : Seen) (x : Cause) (t : Bool) (b : Account) → t ≡ failed x → Agrees b (answeredCallOf c next f) → Agrees (cond t (clears a) b) (outcomeOf c kind next f seen x .call)
+  outcome-agrees : (kind : Kind) (next : Phase) (f : Fates) (seen : Seen) (x : Cause) (t : Bool) (b : Account) → t ≡ failed x → Agrees b (answeredCallOf c next f) → Agrees (cond t (clears a) b) (answeringOf c kind next f seen x .call)
   unfolding goesOnOf clearsOf inPhaseOf
   outcome-agrees kind next f seen Cause.Absent t b e g = rw e g
   outcome-agrees kind next f seen (Cause.Value n) t b e g =

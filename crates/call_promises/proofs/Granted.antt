@@ -35,7 +35,7 @@ use Rattle.clearing_rules.specs.Closing.{silentAnswers, closingStandingOf, hear
 use Rattle.answer.specs.Answer.{numberOf, takenOf}
 use Rattle.facility_rules.specs.Asking.{nobodyAsks, asksOf, mayAskOf, toRequestOf, toAnswerOf}
 use Rattle.sent.specs.Side.{peerOf}
-use Rattle.call.specs.Answering.{answeredCallOf, goesOnOf, clearsOf, outcomeOf, answeredOf, alertingOf, connectOf}
+use Rattle.call.specs.Answering.{answeredCallOf, goesOnOf, clearsOf, answeringOf, answeredOf, alertingOf, connectOf}
 use Rattle.call.specs.Disconnect.{closedCallOf, passedOnOf, disconnectOf, endsOf, releaseCompleteOf}
 use Rattle.call.specs.Facility.{facilityVerdictOf, facilityCallOf, passesFacilityOf, facilityOf}
 use Rattle.call.specs.Information.{metersOf, informationPassageOf, carriedOf, withElementOf, informationOf}
@@ -187,7 +187,7 @@ decided : (s : Standing) (g : Given) {A : Type 0} → (g ≡ Given.Accepted → 
 decided s g f = record { stands = decided-stands s g; comes = λ i. ⊎-elim (λ x. inl x) (λ x. inr (f x)) (decided-comes s g i) }
 
 module _ (c : Call) (k : Service) (e : Event) (l : List ℕ) (kind : Kind) (next : Phase) (f : Fates) (a : Answered (standingFor (c .standings) k) (fateFor f k) (Accepts k e l)) where
-  outcome-traces : (seen : Seen) (x : Cause) → TracesOf c k e l (outcomeOf c kind next f seen x)
+  outcome-traces : (seen : Seen) (x : Cause) → TracesOf c k e l (answeringOf c kind next f seen x)
   unfolding goesOnOf clearsOf inPhaseOf answeredCallOf
   outcome-traces seen Cause.Absent =
       record {

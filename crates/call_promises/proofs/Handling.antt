@@ -35,7 +35,7 @@ use Rattle.answering_rules.specs.Consequences.{failedOf}
 use Rattle.answer.specs.Answer.{numberOf}
 use Rattle.sent.specs.Message.{sayingOf, bareOf, congestionOf, informsOf, onlyIfOf}
 use Rattle.information_rules.specs.Passing.{passageAnswerOf, passesOf, marksOf}
-use Rattle.call.specs.Answering.{goesOnOf, clearsOf, answeredCallOf, outcomeOf, answeredOf, alertingOf, connectOf}
+use Rattle.call.specs.Answering.{goesOnOf, clearsOf, answeredCallOf, answeringOf, answeredOf, alertingOf, connectOf}
 use Rattle.call.specs.Disconnect.{closedCallOf, passedOnOf, disconnectOf, endsOf, releaseCompleteOf}
 use Rattle.facility_rules.specs.Telling.{aboutThreeOf}
 use Rattle.call.specs.Facility.{passesFacilityOf, facilityOf}
@@ -159,7 +159,7 @@ setup-passes c reference rights q l =
 
 -- ALERTING and CONNECT
 module _ (c : Call) (e : Event) (l : List ℕ) (kind : Kind) (next : Phase) (f : Fates) where
-  outcome-passes : (x : Cause) → limitFor c e ≡ c .rights .limit → Goes e Side.Calling kind false → ((d : Call) → d .phase ≡ next → InForce (d .standings .one) → Under c e l d) → Passes c e l (outcomeOf c kind next f (seenOf l (c .rights .limit)) x)
+  outcome-passes : (x : Cause) → limitFor c e ≡ c .rights .limit → Goes e Side.Calling kind false → ((d : Call) → d .phase ≡ next → InForce (d .standings .one) → Under c e l d) → Passes c e l (answeringOf c kind next f (seenOf l (c .rights .limit)) x)
   unfolding goesOnOf clearsOf answeredCallOf bareOf sayingOf
   outcome-passes Cause.Absent k g u =
       record {

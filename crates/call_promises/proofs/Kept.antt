@@ -23,13 +23,13 @@ use Rattle.event.specs.declared.Event.{Event}
 use Rattle.flow_meter.specs.declared.call_meters.Meters.{Meters}
 use Rattle.call.specs.declared.reply.Reply.{Reply}
 use Rattle.flow_meter.specs.Meter.{emptyOf, grantedOf, refilledOf, tickedOf}
-use Rattle.flow_meter.specs.Passage.{countedOf, spentOf, markedOf, underThreeOf, passageOf, afterOf}
+use Rattle.flow_meter.specs.Passage.{countedOf, paidOf, markedOf, underThreeOf, passageOf, afterOf}
 use Rattle.user_element.specs.Element.{wholeOf}
 use Rattle.answering_rules.specs.Consequences.{failedOf, inForceAfterOf}
 use Rattle.answer.specs.Answer.{takenOf}
 use Rattle.flow_meter.specs.Meters.{grantsOf, meterOf, withMeterOf, emptyMeters}
 use Rattle.flow_meter.specs.Ticking.{tickedMetersOf, refillsOf}
-use Rattle.call.specs.Answering.{answeredCallOf, goesOnOf, clearsOf, outcomeOf, answeredOf, alertingOf, connectOf}
+use Rattle.call.specs.Answering.{answeredCallOf, goesOnOf, clearsOf, answeringOf, answeredOf, alertingOf, connectOf}
 use Rattle.call.specs.Disconnect.{closedCallOf, passedOnOf, disconnectOf, endsOf, releaseCompleteOf}
 use Rattle.call.specs.Facility.{facilityCallOf, passesFacilityOf, facilityOf}
 use Rattle.call.specs.Information.{metersOf, informationPassageOf, carriedOf, withElementOf, informationOf}
@@ -61,7 +61,7 @@ module _ (b : ℕ) (m : Meter) (i : MeterInRange b m) where
       }
 
   under-three-in : MeterInRange b (afterOf m (underThreeOf m))
-  unfolding underThreeOf spentOf markedOf
+  unfolding underThreeOf paidOf markedOf
   under-three-in =
       by-cond (λ p. MeterInRange b (afterOf m p)) (ltb 0 (m .credit))
       (λ _. record { credit = omega (arith, i .credit); count = i .count })
@@ -128,7 +128,7 @@ module _ (c : Call) where
   pub same : Follows c c
   same = record { reference = refl; rights = refl; meters = λ m. m }
 
-  outcome-in : (kind : Kind) (next : Phase) (f : Fates) (seen : Seen) (x : Cause) → Follows c (outcomeOf c kind next f seen x .call)
+  outcome-in : (kind : Kind) (next : Phase) (f : Fates) (seen : Seen) (x : Cause) → Follows c (answeringOf c kind next f seen x .call)
   unfolding goesOnOf clearsOf answeredCallOf inPhaseOf
   outcome-in kind next f seen Cause.Absent = record { reference = refl; rights = refl; meters = fate-in _ _ (f .three) }
   outcome-in kind next f seen (Cause.Value n) = record { reference = refl; rights = refl; meters = λ m. m }

@@ -47,7 +47,7 @@ use Rattle.phases.specs.Phase.{freshOf, requestedOf, connectableOf, talkingOf, 
 use Rattle.information_rules.specs.Serving.{lateOf, servesTwoOf, servesThreeOf}
 use Rattle.information_rules.specs.Passing.{passesOf}
 use Rattle.sent.specs.Side.{peerOf}
-use Rattle.call.specs.Answering.{answeredCallOf, goesOnOf, clearsOf, outcomeOf, answeredOf, alertingOf, connectOf}
+use Rattle.call.specs.Answering.{answeredCallOf, goesOnOf, clearsOf, answeringOf, answeredOf, alertingOf, connectOf}
 use Rattle.call.specs.Disconnect.{closedCallOf, passedOnOf, disconnectOf, endsOf, releaseCompleteOf}
 use Rattle.call.specs.Facility.{facilityVerdictOf, facilityCallOf, passesFacilityOf, facilityOf}
 use Rattle.flow_meter.specs.Meters.{meterOf, withMeterOf, emptyMeters}
@@ -530,7 +530,7 @@ module _ (c d : Call) (u : upOf (c .phase) ≡ true) (b : Below c d) where
       replies side _ _ _ _ _ _ _ _ _ _ (facility-stage side what (b .three)) (λ x. never x (about _ _)) (λ x. never x (about _ _))
 
   -- ALERTING and CONNECT
-  outcome : (kind : Kind) (next : Phase) (f f' : Fates) (seen : Seen) (x : Cause) → upOf next ≡ true → Below (answeredCallOf c next f) (answeredCallOf d next f') → Both (outcomeOf c kind next f seen x) (outcomeOf d kind next f' seen x)
+  outcome : (kind : Kind) (next : Phase) (f f' : Fates) (seen : Seen) (x : Cause) → upOf next ≡ true → Below (answeredCallOf c next f) (answeredCallOf d next f') → Both (answeringOf c kind next f seen x) (answeringOf d kind next f' seen x)
   unfolding goesOnOf clearsOf answeredCallOf inPhaseOf sayingOf bareOf goesOutOf
   outcome kind next f f' seen Cause.Absent v k =
       record {

@@ -40,7 +40,7 @@ use Rattle.clearing_rules.specs.Closing.{silentAnswers, closingStandingOf, hear
 use Rattle.answer.specs.Answer.{numberOf}
 use Rattle.phases.specs.Phase.{requestedOf}
 use Rattle.information_rules.specs.Passing.{passageAnswerOf}
-use Rattle.call.specs.Answering.{answeredCallOf, goesOnOf, clearsOf, outcomeOf, answeredOf, alertingOf, connectOf}
+use Rattle.call.specs.Answering.{answeredCallOf, goesOnOf, clearsOf, answeringOf, answeredOf, alertingOf, connectOf}
 use Rattle.call.specs.Disconnect.{passedOnOf, disconnectOf, endsOf, releaseCompleteOf}
 use Rattle.call.specs.Facility.{passesFacilityOf, facilityOf}
 use Rattle.call.specs.Information.{informationPassageOf, carriedOf, withElementOf, informationOf}
@@ -201,7 +201,7 @@ carriesOf : Standing → Fates → Bool
 carriesOf s f = not (failsOf (failedOf f)) && inForceOf (settledOf s (f .one))
 
 module _ (c : Call) (kind : Kind) (next : Phase) (f : Fates) where
-  outcome-note : (seen : Seen) (x : Cause) → outcomeOf c kind next f seen x .note ≡ notedOf seen (not (failsOf x) && inForceOf (settledOf (c .standings .one) (f .one)))
+  outcome-note : (seen : Seen) (x : Cause) → answeringOf c kind next f seen x .note ≡ notedOf seen (not (failsOf x) && inForceOf (settledOf (c .standings .one) (f .one)))
   unfolding goesOnOf clearsOf answeredCallOf settlesOf
   outcome-note seen Cause.Absent = refl
   outcome-note seen (Cause.Value n) = refl

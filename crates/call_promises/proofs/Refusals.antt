@@ -28,7 +28,7 @@ use Rattle.facility_rules.specs.Asking.{toRequestOf, toAnswerOf}
 use Rattle.facility_rules.specs.Telling.{notGrantedOf, aboutThreeOf}
 use Rattle.sent.specs.Message.{silence, sayingOf, congestionOf, onlyIfOf}
 use Rattle.information_rules.specs.Passing.{passageAnswerOf, passesOf, marksOf}
-use Rattle.call.specs.Answering.{goesOnOf, clearsOf, outcomeOf, answeredOf, alertingOf, connectOf}
+use Rattle.call.specs.Answering.{goesOnOf, clearsOf, answeringOf, answeredOf, alertingOf, connectOf}
 use Rattle.call.specs.Disconnect.{passedOnOf, disconnectOf, endsOf, releaseCompleteOf}
 use Rattle.call.specs.Facility.{facilityVerdictOf, passesFacilityOf, facilityOf}
 use Rattle.flow_meter.specs.Meters.{meterOf}
@@ -68,7 +68,7 @@ module _ (c : Call) (e : Event) where
   heard-fair a g r (through _ _ _) f = f
   heard-fair a g r (barred x) f = bar-fair x
 
-outcome-taken : (c : Call) (kind : Kind) (next : Phase) (f : Fates) (seen : Seen) (x : Cause) → outcomeOf c kind next f seen x .answer ≡ Answer.Taken
+outcome-taken : (c : Call) (kind : Kind) (next : Phase) (f : Fates) (seen : Seen) (x : Cause) → answeringOf c kind next f seen x .answer ≡ Answer.Taken
 unfolding goesOnOf clearsOf
 outcome-taken c kind next f seen Cause.Absent = refl
 outcome-taken c kind next f seen (Cause.Value n) = refl

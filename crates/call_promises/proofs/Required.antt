@@ -31,7 +31,7 @@ use Rattle.setup_rules.specs.Requests.{askedStandingOf, firstStandingOf, standi
 use Rattle.answering_rules.specs.Fates.{decidedOf, alertingFatesOf, connectFatesOf}
 use Rattle.answering_rules.specs.Consequences.{settledOf, settlesOf, failureOf, failedOf}
 use Rattle.answer.specs.Answer.{numberOf, takenOf}
-use Rattle.call.specs.Answering.{answeredCallOf, goesOnOf, clearsOf, outcomeOf, answeredOf, alertingOf, connectOf}
+use Rattle.call.specs.Answering.{answeredCallOf, goesOnOf, clearsOf, answeringOf, answeredOf, alertingOf, connectOf}
 use Rattle.call.specs.Disconnect.{closedCallOf, passedOnOf, disconnectOf, endsOf, releaseCompleteOf}
 use Rattle.call.specs.Facility.{facilityCallOf, passesFacilityOf, facilityOf}
 use Rattle.call.specs.Information.{metersOf, informationPassageOf, carriedOf, withElementOf, informationOf}
@@ -154,7 +154,7 @@ module _ (c : Call) (a : Answers) where
   connect-due false Service.Three r w h = comes _ _ (r refl) h
 
 module _ (k : Service) (c : Call) where
-  outcome-due : (kind : Kind) (next : Phase) (f : Fates) (seen : Seen) (x : Cause) → (x ≡ Cause.Absent → Due k next (settledOf (standingFor (c .standings) k) (fateFor f k))) → DueIn k (outcomeOf c kind next f seen x .call)
+  outcome-due : (kind : Kind) (next : Phase) (f : Fates) (seen : Seen) (x : Cause) → (x ≡ Cause.Absent → Due k next (settledOf (standingFor (c .standings) k) (fateFor f k))) → DueIn k (answeringOf c kind next f seen x .call)
   unfolding goesOnOf clearsOf inPhaseOf answeredCallOf
   outcome-due kind next f seen Cause.Absent w = rw settled-for (w refl)
   outcome-due kind next f seen (Cause.Value n) w = tt
@@ -260,7 +260,7 @@ fails : (s : Standing) (g : Given) → Fails s g → failureOf (decidedOf s g) �
 fails s g x h = x .1 (accepted g (rw (x .0) at h))
 
 module _ (c : Call) (kind : Kind) (next : Phase) (f : Fates) where
-  outcome-fails : (seen : Seen) (x : Cause) → (x ≡ Cause.Absent → ⊥) → outcomeOf c kind next f seen x .call .phase ≡ Phase.Clearing
+  outcome-fails : (seen : Seen) (x : Cause) → (x ≡ Cause.Absent → ⊥) → answeringOf c kind next f seen x .call .phase ≡ Phase.Clearing
   unfolding clearsOf inPhaseOf
   outcome-fails seen Cause.Absent n = absurd (n refl)
   outcome-fails seen (Cause.Value n) _ = refl

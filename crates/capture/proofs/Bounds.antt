@@ -25,7 +25,7 @@ use Rattle.message_fields.specs.declared.Reading.{Reading}
 use Rattle.message_fields.specs.declared.Read.{Read}
 use Rattle.message_types.specs.Kind.{kindOf}
 use Rattle.elements.specs.Elements.{Element, Split, cut, whole, elements, counted}
-use Rattle.elements.specs.Meaning.{firstCause, andSays, components, firstThree, readingOf, takenOf}
+use Rattle.elements.specs.Meaning.{firstCause, andSays, components, firstThree, readingOf, takenFrom}
 use Rattle.message.specs.Reading.{widthOf, referenceOf, typedOf, headedOf, readOf}
 use Rattle.message.specs.Parts.{placeIn}
 use Rattle.octet_promises.specs.Promises.{CauseIn, FacilitiesIn}
@@ -120,8 +120,8 @@ abbrev ReadIn : Read → Type 0
 ReadIn (Read.Taken r) = (r .message .header .reference ≤ 32767) × CauseIn (r .message .cause) × FacilitiesIn (r .message .facility)
 ReadIn (Read.Refused f) = Unit {0}
 
-taken-in : (h : Header) (s : Split) → h .reference ≤ 32767 → ReadIn (takenOf h s)
-unfolding takenOf readingOf
+taken-in : (h : Header) (s : Split) → h .reference ≤ 32767 → ReadIn (takenFrom h s)
+unfolding takenFrom readingOf
 taken-in h cut k = tt
 taken-in h (whole es) k = (k, small-cause (counted false es), three (components (counted false es)) (small-components (counted false es)))
 

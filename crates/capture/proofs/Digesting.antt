@@ -10,10 +10,10 @@ use lib.Seq.{length-take-le, drop-drop, getD-drop}
 use Rattle.memory.specs.declared.Bar.{Bar}
 use Rattle.memory.specs.declared.Wrote.{Wrote}
 use Rattle.memory.specs.Room.{placed, Written}
-use Rattle.memory.proofs.Pieces.{length-placed, placed-then}
-use Rattle.text.proofs.Pieced.{took, refused, no-piece}
+use Rattle.memory.proofs.Pieces.{length-placed, placed-then, no-put}
+use Rattle.text.proofs.Pieced.{took, refused}
 use Rattle.message_line.specs.Line.{lineOf}
-use Rattle.capture.specs.Frames.{Frame, sizeOf, framesOf, lineAt, linesOf, fitting, spanOf, workedOff, Digested}
+use Rattle.capture.specs.Frames.{Frame, frameSizeOf, framesOf, lineAt, linesOf, fitting, spanOf, workedOff, Digested}
 use Rattle.capture.specs.Margins.{laterOf}
 use Rattle.capture.proofs.Framing.{firstOf, frames-turn, frames-end, later-later, later-none}
 
@@ -50,18 +50,18 @@ stop {c} {offset} {l} {out} {i} {k} g e =
     record {
       used = omega (arith, rw e at (g .used));
       wrote = omega (arith, rw e at (g .wrote));
-      buffer = no-piece {at = k} {l = out} .octets ∙ (rw e at (g .buffer));
+      buffer = no-put {at = k} {l = out} .octets ∙ (rw e at (g .buffer));
     }
 
 module _ {c : List ℕ} {offset : ℕ} {l out : List ℕ} {i k : ℕ} (g : Going c offset l out i k) where
   -- the rest of the piece is no whole message
-  pub stop-short : length c - i < 2 + sizeOf (drop i c) → Digested c offset l out (record { used = i; wrote = k })
+  pub stop-short : length c - i < 2 + frameSizeOf (drop i c) → Digested c offset l out (record { used = i; wrote = k })
   unfolding fitting
   stop-short h = stop g (rw (frames-end (laterOf offset i) (drop i c) (rw length-drop h)))
 
   module _ (n : ℕ) (size : n ≡ getD c i 0 * 256 + getD c (i + 1) 0) where
-    size-is : sizeOf (drop i c) ≡ n
-    unfolding sizeOf
+    size-is : frameSizeOf (drop i c) ≡ n
+    unfolding frameSizeOf
     size-is =
         let z : i + 0 ≡ i = omega arith in
         rw (getD-drop i c 0 0, getD-drop i c 1 0, z) (sym size)

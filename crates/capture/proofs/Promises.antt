@@ -9,7 +9,7 @@ use borrow.Author.Tests.{ltb-true, ltb-false, leb-true, leb-false, le-leb}
 use lib.Dec.{ltb, leb}
 use lib.ListN.{length, take, drop, replicate, length-append, length-take, length-drop, List·getD-eq-default}
 use lib.Seq.{take-append-seam, drop-append-seam, drop-append-le, getD-take, getD-drop}
-use Rattle.capture.specs.Frames.{Frame, sizeOf, framesOf, lineAt, linesOf, fitting, spanOf, workedOff, printedOf}
+use Rattle.capture.specs.Frames.{Frame, frameSizeOf, framesOf, lineAt, linesOf, fitting, spanOf, workedOff, printedOf}
 use Rattle.capture.specs.Margins.{laterOf}
 use Rattle.capture.specs.Promises.{Offset, GoesOn, endToEnd, octetsIn, LineEach, Octets, Run, WholeRun, Runs, Always}
 use Rattle.capture.proofs.Framing.{firstOf, frames-turn, frames-end}
@@ -28,8 +28,8 @@ module _ (m rest : List ℕ) where
   abbrev whole : List ℕ
   whole = ((length m / 256) ∷ (length m % 256) ∷ m) ++ rest
 
-  size-is : sizeOf whole ≡ length m
-  unfolding sizeOf
+  size-is : frameSizeOf whole ≡ length m
+  unfolding frameSizeOf
   size-is = div-add-mod' (length m) 256
 
   each-turn : (offset : ℕ) → framesOf offset whole ≡ record { at = laterOf offset 2; octets = m } ∷ framesOf (laterOf offset (2 + length m)) rest
@@ -93,10 +93,10 @@ none-of (f ∷ fs) e = absurd (omega arith)
 stuck : (c l : List ℕ) (offset : ℕ) → Octets c → Offset offset → 85 ≤ length l → spanOf (workedOff c offset l) ≡ 0 → framesOf offset c ≡ []
 unfolding workedOff fitting
 stuck c l offset h k r e =
-    either-way (leb (2 + sizeOf c) (length c))
+    either-way (leb (2 + frameSizeOf c) (length c))
     (λ t.
     let n = rw (frames-turn offset c (leb-true _ _ t)) at (none-of (fitting (framesOf offset c) (length l)) e) in
-    let b = bounded (firstOf offset c .octets) (laterOf offset 2) (part-octets c (sizeOf c) 2 h) (later-small offset 2) in
+    let b = bounded (firstOf offset c .octets) (laterOf offset 2) (part-octets c (frameSizeOf c) 2 h) (later-small offset 2) in
     let m = simp (le-leb (length (lineAt (firstOf offset c))) (length l) (omega arith)) at n in
     let z : _≡_ {A = ℕ} 0 1 = cc in
     absurd (omega arith))

@@ -16,15 +16,15 @@ pub record Frame : Type 0 where
   pub octets : List ℕ
 
 -- the length that a capture begins with
-unfoldable pub sizeOf : List ℕ → ℕ
-sizeOf c = getD c 0 0 * 256 + getD c 1 0
+unfoldable pub frameSizeOf : List ℕ → ℕ
+frameSizeOf c = getD c 0 0 * 256 + getD c 1 0
 
 -- the whole messages at the front of a piece of capture that starts at an offset: the first of them, and at most k - 1 more
 unfoldable pub framesIn : ℕ → ℕ → List ℕ → List Frame
 framesIn zero offset c = []
 framesIn (suc k) offset c =
-    cond (leb (2 + sizeOf c) (length c))
-    (record { at = laterOf offset 2; octets = take (sizeOf c) (drop 2 c) } ∷ framesIn k (laterOf offset (2 + sizeOf c)) (drop (2 + sizeOf c) c))
+    cond (leb (2 + frameSizeOf c) (length c))
+    (record { at = laterOf offset 2; octets = take (frameSizeOf c) (drop 2 c) } ∷ framesIn k (laterOf offset (2 + frameSizeOf c)) (drop (2 + frameSizeOf c) c))
     []
 
 -- all of them: there are no more messages than octets

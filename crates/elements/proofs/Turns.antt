@@ -20,7 +20,7 @@ use Rattle.elements.specs.declared.End.{End}
 use Rattle.elements.specs.Elements.{Element, Split, cut, whole, then, elements, isWhole, counted, between, Ended, Ends}
 use Rattle.elements.specs.Single.{orSingle}
 use Rattle.elements.specs.Found.{causeSeen}
-use Rattle.elements.specs.Meaning.{firstSingle, firstCause, firstPlace, components, firstThree, readingOf, takenOf}
+use Rattle.elements.specs.Meaning.{firstSingle, firstCause, firstPlace, components, firstThree, readingOf, takenFrom}
 use Rattle.elements.specs.Scan.{causeThen, listed, placeThen, readingFrom, Adds, takenWith}
 use Rattle.elements.proofs.Splitting.{none-left}
 
@@ -60,8 +60,8 @@ goingOn h pass f (whole es) = Read.Taken (readingFrom h f (counted pass es))
 unfoldable pub locked : Header → Found → Split → Read
 locked h f s = cond (isWhole s) (takenWith h f) (Read.Refused Fault.Short)
 
-pub at-first : (h : Header) (s : Split) → goingOn h false nothing s ≡ takenOf h s
-unfolding goingOn takenOf readingFrom readingOf
+pub at-first : (h : Header) (s : Split) → goingOn h false nothing s ≡ takenFrom h s
+unfolding goingOn takenFrom readingFrom readingOf
 at-first h cut = refl
 at-first h (whole es) = refl
 

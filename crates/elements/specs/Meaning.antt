@@ -64,6 +64,6 @@ readingOf h es =
       user = firstPlace es;
     }
 
-unfoldable pub takenOf : Header → Split → Read
-takenOf h cut = Read.Refused Fault.Short
-takenOf h (whole es) = Read.Taken (readingOf h (counted false es))
+unfoldable pub takenFrom : Header → Split → Read
+takenFrom h cut = Read.Refused Fault.Short
+takenFrom h (whole es) = Read.Taken (readingOf h (counted false es))

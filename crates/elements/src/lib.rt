@@ -3,7 +3,7 @@ ghost use mathlib.Core.Path.{_≡_};
 ghost use Prim.Native.Nat.{_<_, _≤_, _+_};
 ghost use lib.ListN.{length, getD, drop};
 ghost use Rattle.elements.specs.Elements.{Ends, between, elements, isWhole};
-ghost use Rattle.elements.specs.Meaning.{takenOf};
+ghost use Rattle.elements.specs.Meaning.{takenFrom};
 ghost use Rattle.elements.specs.Scan.{Adds, takenWith};
 use crate::single::first_single;
 use crate::single::single_in;
@@ -130,7 +130,7 @@ fn ends_whole(m: &[u8], start: usize) -> bool
 
 // The elements from a place on. A locking shift ends the search; the lengths after it are still checked.
 pub fn scan(m: &[u8], start: usize, h: Header) -> Read
-    ensures { λ r. ⌜ r ≡ takenOf h (elements start 0 (drop start (now (m .entry)))) ⌝ }
+    ensures { λ r. ⌜ r ≡ takenFrom h (elements start 0 (drop start (now (m .entry)))) ⌝ }
 {
     let mut i = start;
     let mut pass = false;

@@ -11,8 +11,8 @@ unfoldable pub countedOf : Meter → Meter
 countedOf m = record { credit = m .credit; mark = m .mark; count = m .count + 1 }
 
 -- "a message spends one"
-unfoldable pub spentOf : Meter → Meter
-spentOf m = record { credit = m .credit - 1; mark = m .mark; count = m .count }
+unfoldable pub paidOf : Meter → Meter
+paidOf m = record { credit = m .credit - 1; mark = m .mark; count = m .count }
 
 -- "The first message dropped for credit under service 3 sets that direction's mark"
 unfoldable pub markedOf : Meter → Meter
@@ -20,7 +20,7 @@ markedOf m = record { credit = m .credit; mark = true; count = m .count }
 
 unfoldable pub underThreeOf : Meter → Passage
 underThreeOf m =
-    cond (ltb 0 (m .credit)) (Passage.Three (spentOf m)) (cond (m .mark) Passage.Spent (Passage.Marks (markedOf m)))
+    cond (ltb 0 (m .credit)) (Passage.Three (paidOf m)) (cond (m .mark) Passage.Spent (Passage.Marks (markedOf m)))
 
 -- Where service 2 serves, "its remaining count first; then service 3". A spent count without service 3 is 14, no service at all 13.
 unfoldable pub passageOf : Meter → Bool → Bool → Passage

@@ -11,7 +11,7 @@ use Rattle.message_fields.specs.declared.Fault.{Fault}
 use Rattle.message_fields.specs.declared.Read.{Read}
 use Rattle.message_types.specs.Kind.{kindOf}
 use Rattle.elements.specs.Elements.{elements}
-use Rattle.elements.specs.Meaning.{takenOf}
+use Rattle.elements.specs.Meaning.{takenFrom}
 use Rattle.message.specs.Reading.{widthOf, headerOf, typedOf, headedOf}
 
 module _ (w : Width) (m : List ℕ) where
@@ -26,5 +26,5 @@ module _ (w : Width) (m : List ℕ) where
   pub headed-unknown : widthOf w + 3 ≤ length m → kindOf (getD m (widthOf w + 2) 0) ≡ Typed.Unknown → Read.Refused Fault.Kind ≡ headedOf w m
   headed-unknown h e = sym (headed-typed h ∙ ap (typedOf w m) e)
 
-  pub headed-known : (k : Kind) → widthOf w + 3 ≤ length m → kindOf (getD m (widthOf w + 2) 0) ≡ Typed.Known k → takenOf (headerOf w m k) (elements (widthOf w + 3) 0 (drop (widthOf w + 3) m)) ≡ headedOf w m
+  pub headed-known : (k : Kind) → widthOf w + 3 ≤ length m → kindOf (getD m (widthOf w + 2) 0) ≡ Typed.Known k → takenFrom (headerOf w m k) (elements (widthOf w + 3) 0 (drop (widthOf w + 3) m)) ≡ headedOf w m
   headed-known k h e = sym (headed-typed h ∙ ap (typedOf w m) e)

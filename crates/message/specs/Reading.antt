@@ -12,7 +12,7 @@ use Rattle.message_types.specs.Kind.{kindOf}
 use Rattle.message_fields.specs.declared.Fault.{Fault}
 use Rattle.message_fields.specs.declared.Read.{Read}
 use Rattle.elements.specs.Elements.{elements}
-use Rattle.elements.specs.Meaning.{takenOf}
+use Rattle.elements.specs.Meaning.{takenFrom}
 
 -- "the reference length (1 or 2)"
 abbrev pub widthOf : Width → ℕ
@@ -35,7 +35,7 @@ headerOf w m k =
 
 abbrev pub typedOf : Width → List ℕ → Typed → Read
 typedOf w m Typed.Unknown = Read.Refused Fault.Kind
-typedOf w m (Typed.Known k) = takenOf (headerOf w m k) (elements (widthOf w + 3) 0 (drop (widthOf w + 3) m))
+typedOf w m (Typed.Known k) = takenFrom (headerOf w m k) (elements (widthOf w + 3) 0 (drop (widthOf w + 3) m))
 
 -- the reference, the type, the elements
 unfoldable pub headedOf : Width → List ℕ → Read

@@ -30,12 +30,12 @@ taken-columns h c s f e k p q t =
 pub room-left : {a : ℕ} {n l l₁ : List ℕ} {w : Wrote} → length l ≡ 202 → length n ≤ 20 → Written true 0 n l l₁ w → a ≡ endOf w → a + 181 ≤ length l₁
 room-left {l = l} h k v e =
     let q = settled {most = 20} {at = 0} (omega arith) k v e in
-    omega (arith, q .end, q .small, piece-length {l = l} (omega arith) q)
+    omega (arith, q .put .end, q .small, piece-length {l = l} (omega arith) q)
 
 -- and all of it
 pub laid-out : {a b : ℕ} {n c l l₁ l₂ : List ℕ} {w : Wrote} → length l ≡ 202 → length n ≤ 20 → Written true 0 n l l₁ w → a ≡ endOf w → Piece 181 a c l₁ l₂ b → Piece 202 0 (n ++ c ++ (10 ∷ [])) l (set l₂ b 10) (b + 1)
 laid-out {l = l} {l₁ = l₁} h k v e p =
     let q = settled {most = 20} {at = 0} (omega arith) k v e in
     let f = piece-length {l = l} (omega arith) q in
-    let g = piece-length {l = l₁} (omega (arith, q .end, q .small)) p in
-    two (omega arith) (two (omega arith) q p) (octet (omega (arith, q .end, q .small, p .end, p .small)))
+    let g = piece-length {l = l₁} (omega (arith, q .put .end, q .small)) p in
+    two (omega arith) (two (omega arith) q p) (octet (omega (arith, q .put .end, q .small, p .put .end, p .small)))

@@ -5,6 +5,7 @@ use mathlib.Core.Bool.{cond}
 use lib.Dec.{eqb}
 use Rattle.message_types.specs.declared.Kind.{Kind}
 use Rattle.message_types.specs.declared.Typed.{Typed}
+use Rattle.message_types.specs.declared.Class.{Class}
 
 abbrev pub kindOctet : Kind → ℕ
 kindOctet Kind.Alerting = 0x01
@@ -29,3 +30,15 @@ kindOf x =
     (cond (eqb x 0x5A) (Typed.Known Kind.ReleaseComplete)
     (cond (eqb x 0x62) (Typed.Known Kind.Facility)
     (cond (eqb x 0x79) (Typed.Known Kind.CongestionControl) Typed.Unknown))))))))
+
+-- "More data belongs to USER INFORMATION only, and a congestion level to CONGESTION CONTROL": which single octet a message may have
+abbrev pub classOf : Kind → Class
+classOf Kind.Alerting = Class.Plain
+classOf Kind.CallProceeding = Class.Plain
+classOf Kind.Setup = Class.Plain
+classOf Kind.Connect = Class.Plain
+classOf Kind.UserInformation = Class.Information
+classOf Kind.Disconnect = Class.Plain
+classOf Kind.ReleaseComplete = Class.Plain
+classOf Kind.Facility = Class.Plain
+classOf Kind.CongestionControl = Class.Congestion

@@ -1,6 +1,6 @@
 // The nine message types.
 ghost use mathlib.Core.Path.{_≡_};
-ghost use Rattle.message_types.specs.Kind.{kindOf, kindOctet};
+ghost use Rattle.message_types.specs.Kind.{kindOf, kindOctet, classOf};
 
 pub enum Kind {
     Alerting,
@@ -18,6 +18,13 @@ pub enum Kind {
 pub enum Typed {
     Unknown,
     Known(Kind),
+}
+
+// Which single octet a message of a type may have: none, More data, or a congestion level.
+pub enum Class {
+    Plain,
+    Information,
+    Congestion,
 }
 
 pub fn kind_in(x: u8) -> Typed
@@ -50,5 +57,15 @@ pub fn kind_octet(k: Kind) -> u8
         Kind::ReleaseComplete => 0x5A,
         Kind::Facility => 0x62,
         Kind::CongestionControl => 0x79,
+    }
+}
+
+pub fn class_of(k: Kind) -> Class
+    ensures { λ r. ⌜ r ≡ classOf k ⌝ }
+{
+    match k {
+        Kind::UserInformation => Class::Information,
+        Kind::CongestionControl => Class::Congestion,
+        _ => Class::Plain,
     }
 }

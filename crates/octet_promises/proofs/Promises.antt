@@ -17,7 +17,7 @@ use Rattle.message_fields.specs.declared.Message.{Message}
 use Rattle.message_fields.specs.declared.Read.{Read}
 use Rattle.message_types.specs.Kind.{kindOf}
 use Rattle.elements.specs.Elements.{then, elements}
-use Rattle.elements.specs.Meaning.{takenOf}
+use Rattle.elements.specs.Meaning.{takenFrom}
 use Rattle.message.specs.Reading.{headedOf, readOf}
 use Rattle.message.specs.Parts.{userUserOf}
 use Rattle.writer.specs.Fitting.{messageFits}
@@ -96,5 +96,5 @@ alike w w' u u' h h' e =
     (sym (found-again w w u h) ∙ ap (λ (m : List ℕ). messageIn w (readOf m)) e ∙ found-again w w' u' h', sym (element-back w u h) ∙ ap userUserOf e ∙ element-back w' u' h')
 
 pub edge-cases : Edges
-unfolding readOf headedOf kindOf elements then takenOf
+unfolding readOf headedOf kindOf elements then takenFrom
 edge-cases = (refl, (refl, (refl, tt)))

@@ -17,7 +17,7 @@ use Rattle.message_fields.specs.declared.Fault.{Fault}
 use Rattle.message_fields.specs.declared.Read.{Read}
 use Rattle.message_types.specs.Kind.{kindOf}
 use Rattle.elements.specs.Elements.{Element, Split, cut, whole, then, elements, isWhole}
-use Rattle.elements.specs.Meaning.{takenOf}
+use Rattle.elements.specs.Meaning.{takenFrom}
 use Rattle.message.specs.Reading.{widthOf, headerOf, typedOf, headedOf, readOf}
 use Rattle.message_fields.specs.Numbers.{faultNumber, readNumber}
 use Rattle.octet_promises.specs.Promises.{Whole, none, alone, announced, readRows}
@@ -82,8 +82,8 @@ on-second m = row (length m < 2) 1 (on-width (getD m 1 0) m)
 abbrev on-first : List ℕ → Rows
 on-first m = row (getD m 0 0 ≡ 8 → ⊥) 3 (on-second m)
 
-element-rows : (h : Header) (p : ℕ) (l : List ℕ) (s : Split) → elements p 0 l ≡ s → First (row (Whole l → ⊥) 1 end) (readNumber (takenOf h s))
-unfolding takenOf
+element-rows : (h : Header) (p : ℕ) (l : List ℕ) (s : Split) → elements p 0 l ≡ s → First (row (Whole l → ⊥) 1 end) (readNumber (takenFrom h s))
+unfolding takenFrom
 element-rows h p l cut e = inl ((λ w. true≢false (sym (splits w p) ∙ ap isWhole e)), refl)
 element-rows h p l (whole es) e = inr ((λ n. n (joins p 0 l (ap isWhole e) .1)), refl)
 

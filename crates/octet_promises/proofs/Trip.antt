@@ -15,6 +15,7 @@ use Rattle.facility.specs.declared.Component.{Component}
 use Rattle.facility.specs.Facility.{componentFits}
 use Rattle.facility.specs.Filling.{bodyOf, facilityOctets}
 use Rattle.facility.proofs.filling.Back.{facility-back, cause-back}
+use Rattle.message_types.specs.declared.Class.{Class}
 use Rattle.message_types.specs.declared.Kind.{Kind}
 use Rattle.message_types.specs.declared.Typed.{Typed}
 use Rattle.message_fields.specs.declared.Width.{Width}
@@ -26,15 +27,15 @@ use Rattle.message_fields.specs.declared.Place.{Place}
 use Rattle.elements.specs.declared.so_far.Seen.{Seen}
 use Rattle.elements.specs.declared.so_far.Found.{Found}
 use Rattle.message_fields.specs.declared.Read.{Read}
-use Rattle.message_types.specs.Kind.{kindOf, kindOctet}
+use Rattle.message_types.specs.Kind.{kindOf, kindOctet, classOf}
 use Rattle.elements.specs.Elements.{element, elements, counted}
 use Rattle.elements.specs.Single.{moreIn, levelIn, singleOf}
 use Rattle.elements.specs.Found.{oneMore, causeSeen}
-use Rattle.elements.specs.Meaning.{takenOf}
+use Rattle.elements.specs.Meaning.{takenFrom}
 use Rattle.message.specs.Reading.{readOf}
 use Rattle.message.specs.Parts.{partOf, userUserOf}
 use Rattle.elements.specs.Scan.{Adds, takenWith}
-use Rattle.writer.specs.Fitting.{referenceFits, plainFits, moreFits, singleFits, causesFit, facilitiesFit, messageFits}
+use Rattle.writer.specs.Fitting.{referenceFits, plainFits, moreFits, classFits, singleFits, causesFit, facilitiesFit, messageFits}
 use Rattle.writer.specs.Writing.{topOf, headerOctets, headerSize, singleOctets, causesOctets, facilitiesOctets, frontOctets, messageOctets}
 use Rattle.octet_promises.specs.Promises.{UserElement, placeFor}
 use Rattle.elements.proofs.Splitting.{alone, lengthy}
@@ -74,7 +75,7 @@ high-back false r h = omega arith
 abbrev headerWith : Width → Bool → ℕ → Kind → Header
 headerWith w f r k = record { width = w; flag = f; reference = r; kind = k }
 
-header-read : (w : Width) (f : Bool) (r : ℕ) (k : Kind) (rest : List ℕ) → referenceFits w r ≡ true → length (headerOctets (headerWith w f r k) ++ rest) ≤ 260 → readOf (headerOctets (headerWith w f r k) ++ rest) ≡ takenOf (headerWith w f r k) (elements (headerSize w) 0 rest)
+header-read : (w : Width) (f : Bool) (r : ℕ) (k : Kind) (rest : List ℕ) → referenceFits w r ≡ true → length (headerOctets (headerWith w f r k) ++ rest) ≤ 260 → readOf (headerOctets (headerWith w f r k) ++ rest) ≡ takenFrom (headerWith w f r k) (elements (headerSize w) 0 rest)
 unfolding readOf
 header-read Width.One f r k rest h s =
     let m : List ℕ = 8 ∷ 1 ∷ topOf f r ∷ kindOctet k ∷ rest in
@@ -86,27 +87,15 @@ header-read Width.Two f r k rest h s =
     (sym (headed-known Width.Two m k (omega arith) (kind-back k)) ∙ rw (flag-back f (r / 256), high-back f r (ltb-true _ _ h)) refl)
 
 -- THE ELEMENTS, one kind after another
-more-back : (k : Kind) → singleFits k Single.MoreData ≡ true → moreIn k ≡ Single.MoreData
-more-back Kind.Alerting h = absurd (true≢false (sym h))
-more-back Kind.CallProceeding h = absurd (true≢false (sym h))
-more-back Kind.Setup h = absurd (true≢false (sym h))
-more-back Kind.Connect h = absurd (true≢false (sym h))
-more-back Kind.UserInformation h = refl
-more-back Kind.Disconnect h = absurd (true≢false (sym h))
-more-back Kind.ReleaseComplete h = absurd (true≢false (sym h))
-more-back Kind.Facility h = absurd (true≢false (sym h))
-more-back Kind.CongestionControl h = absurd (true≢false (sym h))
+more-back : (c : Class) → classFits c Single.MoreData ≡ true → moreIn c ≡ Single.MoreData
+more-back Class.Plain h = absurd (true≢false (sym h))
+more-back Class.Information h = refl
+more-back Class.Congestion h = absurd (true≢false (sym h))
 
-level-back : (s : Single) → plainFits s ≡ false → moreFits s ≡ false → (k : Kind) → singleFits k s ≡ true → levelIn k s ≡ s
-level-back s p m Kind.Alerting h = absurd (true≢false (sym h ∙ p))
-level-back s p m Kind.CallProceeding h = absurd (true≢false (sym h ∙ p))
-level-back s p m Kind.Setup h = absurd (true≢false (sym h ∙ p))
-level-back s p m Kind.Connect h = absurd (true≢false (sym h ∙ p))
-level-back s p m Kind.UserInformation h = absurd (true≢false (sym h ∙ m))
-level-back s p m Kind.Disconnect h = absurd (true≢false (sym h ∙ p))
-level-back s p m Kind.ReleaseComplete h = absurd (true≢false (sym h ∙ p))
-level-back s p m Kind.Facility h = absurd (true≢false (sym h ∙ p))
-level-back s p m Kind.CongestionControl h = refl
+level-back : (s : Single) → plainFits s ≡ false → moreFits s ≡ false → (c : Class) → classFits c s ≡ true → levelIn c s ≡ s
+level-back s p m Class.Plain h = absurd (true≢false (sym h ∙ p))
+level-back s p m Class.Information h = absurd (true≢false (sym h ∙ m))
+level-back s p m Class.Congestion h = refl
 
 abbrev seenFor : Cause → Seen
 seenFor Cause.Absent = Seen.Unseen
@@ -136,9 +125,9 @@ module _ (h : Header) where
   single-read : (s : Single) (p q : ℕ) (rest : List ℕ) → p + length (singleOctets s) ≡ q → singleFits (h .kind) s ≡ true → goingOn h false nothing (elements p 0 (singleOctets s ++ rest)) ≡ goingOn h false (found s Seen.Unseen Facilities.Zero Place.Absent) (elements q 0 rest)
   unfolding singleOf
   single-read Single.Absent p q rest e f = let s : p ≡ q = omega arith in rw s refl
-  single-read Single.MoreData p q rest e f = single-is p q 0xA0 Single.MoreData rest (omega arith) (omega arith) (more-back (h .kind) f)
-  single-read Single.Ready p q rest e f = single-is p q 0xB0 Single.Ready rest (omega arith) (omega arith) (level-back Single.Ready refl refl (h .kind) f)
-  single-read Single.NotReady p q rest e f = single-is p q 0xBF Single.NotReady rest (omega arith) (omega arith) (level-back Single.NotReady refl refl (h .kind) f)
+  single-read Single.MoreData p q rest e f = single-is p q 0xA0 Single.MoreData rest (omega arith) (omega arith) (more-back (classOf (h .kind)) f)
+  single-read Single.Ready p q rest e f = single-is p q 0xB0 Single.Ready rest (omega arith) (omega arith) (level-back Single.Ready refl refl (classOf (h .kind)) f)
+  single-read Single.NotReady p q rest e f = single-is p q 0xBF Single.NotReady rest (omega arith) (omega arith) (level-back Single.NotReady refl refl (classOf (h .kind)) f)
 
   cause-read : (c : Cause) (p q : ℕ) (s : Single) (rest : List ℕ) → p + length (causesOctets c) ≡ q → causesFit c ≡ true → goingOn h false (found s Seen.Unseen Facilities.Zero Place.Absent) (elements p 0 (causesOctets c ++ rest)) ≡ goingOn h false (found s (seenFor c) Facilities.Zero Place.Absent) (elements q 0 rest)
   cause-read Cause.Absent p q s rest e f = let z : p ≡ q = omega arith in rw z refl

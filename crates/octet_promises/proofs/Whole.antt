@@ -17,7 +17,7 @@ use Rattle.message_fields.specs.declared.Read.{Read}
 use Rattle.message_types.specs.Kind.{kindOf}
 use Rattle.elements.specs.Elements.{element, Split, cut, whole, then, elements, locking, shifting, counted}
 use Rattle.elements.specs.Elements as el
-use Rattle.elements.specs.Meaning.{firstPlace, readingOf, takenOf}
+use Rattle.elements.specs.Meaning.{firstPlace, readingOf, takenFrom}
 use Rattle.message.specs.Reading.{widthOf, headerOf, typedOf, headedOf, readOf}
 use Rattle.message.specs.Parts.{placeIn, userUserOf}
 use Rattle.octet_promises.specs.Promises as promise
@@ -115,8 +115,8 @@ module _ (m : List ℕ) where
       record { within = l .within; first = l .first ∙ i; second = rw (l .second) refl })
       (λ _. place-in es (h .1))
 
-  split-in : (h : Header) (s : Split) → SplitIn s → PlaceIn (placeIn (takenOf h s))
-  unfolding takenOf readingOf
+  split-in : (h : Header) (s : Split) → SplitIn s → PlaceIn (placeIn (takenFrom h s))
+  unfolding takenFrom readingOf
   split-in h cut i = tt
   split-in h (whole es) i = place-in (counted false es) (counted-in false es i)
 

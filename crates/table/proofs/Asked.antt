@@ -31,9 +31,9 @@ use Rattle.call.specs.declared.Call.{Call}
 use Rattle.call.specs.Sound.{freshCall}
 use Rattle.call.proofs.Call as T
 use Rattle.call.proofs.Call.Laws as T′
-use Rattle.table.specs.declared.choice.Found.{Found}
-use Rattle.table.proofs.choice.Found as U
-use Rattle.table.proofs.choice.Found.Laws as U′
+use Rattle.table.specs.declared.choice.Spot.{Spot}
+use Rattle.table.proofs.choice.Spot as U
+use Rattle.table.proofs.choice.Spot.Laws as U′
 use Rattle.table.specs.declared.sought.Sought.{Sought}
 use Rattle.table.proofs.sought.Sought as S
 use Rattle.table.proofs.sought.Sought.Laws as S′
@@ -42,7 +42,7 @@ use Rattle.table.proofs.Lent.{val, shown, lends, calls-lent}
 use Rattle.table.proofs.call_at as g
 use Rattle.table.proofs.first_from as s
 
-abbrev pub uval : Found → Val
+abbrev pub uval : Spot → Val
 uval = LE.val U.the-type U′.the-laws
 
 abbrev pub sval : Sought → Val
@@ -75,7 +75,7 @@ module _ {M : Type 1} {𝓤 : URA M} {H : Heap 𝓤} {A : Atoms 𝓤} {K : Type 
 
   pub calls-first : Triple 𝓤 (C f) (FirstFrom 𝓤 H A mem run) → (κ : Lft) (p : Share) (x : RefT (List Call)) (i : ℕ) (k : Sought) → i < 2 ^ 64 → Is S.the-row k (sval k ∷ [])
       → Opds K W (raw (FirstFrom 𝓤 H A mem run .pre (to-first 𝓤 H A κ p x i k, tt)) ∷ ‵ (shown κ x) ∷ Γ) E xs (passed 𝓤 H A s.signature (to-first 𝓤 H A κ p x i k))
-      → ((r : Found) → r ≡ firstFrom (drop i (x .now)) i k → Is U.the-row r (uval r ∷ []) → Seq K W (‵ (shown κ x) ∷ (‵ (flft κ p) ⊛ ‵ ftrue) ∷ Γ) (lands C Λ E d (uval r) rest q))
+      → ((r : Spot) → r ≡ firstFrom (drop i (x .now)) i k → Is U.the-row r (uval r ∷ []) → Seq K W (‵ (shown κ x) ∷ (‵ (flft κ p) ⊛ ‵ ftrue) ∷ Γ) (lands C Λ E d (uval r) rest q))
       → Seq K W (‵ (shown κ x) ∷ (‵ (flft κ p) ⊛ ‵ ftrue) ∷ Γ) (runs C Λ E (seq (call f xs d) rest) q)
   calls-first met κ p x i k gi isk os then =
       calls-lent t fm s.ended (s.clauses 𝓤 H A mem run) met (to-first 𝓤 H A κ p x i k) tt κ p x

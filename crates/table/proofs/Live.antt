@@ -4,7 +4,7 @@ use Prim.Native.Nat.{ℕ, _+_}
 use mathlib.Core.Bool.{cond}
 use mathlib.Core.List.{List, [], _∷_}
 use Rattle.call.specs.declared.Call.{Call}
-use Rattle.table.specs.declared.choice.Found.{Found}
+use Rattle.table.specs.declared.choice.Spot.{Spot}
 use Rattle.table.specs.declared.sought.Sought.{Sought}
 use Rattle.table.specs.Look.{liveAs}
 use Rattle.table.specs.First.{firstFrom}
@@ -12,4 +12,4 @@ use Rattle.table.specs.Table.{findFrom}
 
 pub finds-live : (l : List Call) (i n : ℕ) → firstFrom l i (Sought.Live n) ≡ findFrom l i n
 finds-live [] i n = refl
-finds-live (c ∷ cs) i n = ap (cond (liveAs c n) (Found.At i)) (finds-live cs (i + 1) n)
+finds-live (c ∷ cs) i n = ap (cond (liveAs c n) (Spot.At i)) (finds-live cs (i + 1) n)

@@ -10,15 +10,15 @@ use Rattle.call.specs.declared.Call.{Call}
 use Rattle.call.specs.Sound.{freshCall, soundOf}
 use Rattle.phases.specs.Phase.{liveOf}
 use Rattle.table.specs.declared.sought.Sought.{Sought}
-use Rattle.table.specs.Look.{liveAs, isAt, laterOf, faultOf}
+use Rattle.table.specs.Look.{liveAs, isAt, searchFromOf, faultOf}
 use Rattle.table.specs.First.{firstFrom}
 use Rattle.table.specs.Table.{findFrom, heldIn, callsSound}
-use Rattle.table.specs.declared.choice.Found.{Found}
+use Rattle.table.specs.declared.choice.Spot.{Spot}
 use Rattle.table.proofs.Live.{finds-live}
 use Rattle.table.proofs.Along.{one-more, dropped}
 
 -- a record is found exactly if there is one
-one-held : (t : Bool) (i : ℕ) (r : Found) (s : Bool) → isAt r ≡ s → isAt (cond t (Found.At i) r) ≡ t || s
+one-held : (t : Bool) (i : ℕ) (r : Spot) (s : Bool) → isAt r ≡ s → isAt (cond t (Spot.At i) r) ≡ t || s
 one-held true i r s e = refl
 one-held false i r s e = e
 
@@ -47,8 +47,8 @@ fault-cases l i n false true = ap (λ (cs : List Call). isAt (firstFrom cs (leng
 fault-cases l i n false false = refl
 
 pub fault-says : (l : List Call) (c : Call) (i : ℕ) →
-    faultOf c (firstFrom (drop (laterOf c (i + 1) (length l)) l) (laterOf c (i + 1) (length l)) (Sought.Live (c .reference))) ≡ not (soundOf c && not (liveOf (c .phase) && heldIn (drop (i + 1) l) (c .reference)))
-unfolding laterOf faultOf
+    faultOf c (firstFrom (drop (searchFromOf c (i + 1) (length l)) l) (searchFromOf c (i + 1) (length l)) (Sought.Live (c .reference))) ≡ not (soundOf c && not (liveOf (c .phase) && heldIn (drop (i + 1) l) (c .reference)))
+unfolding searchFromOf faultOf
 fault-says l c i = fault-cases l i (c .reference) (liveOf (c .phase)) (soundOf c)
 
 pub stops : (x y : Bool) → Holds (not x) → x && y ≡ false

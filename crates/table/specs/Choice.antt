@@ -7,7 +7,7 @@ use Rattle.event.specs.declared.Event.{Event}
 use Rattle.table.specs.declared.verdict.Verdict.{Verdict}
 use Rattle.table.specs.declared.choice.Choice.{Choice}
 use Rattle.table.specs.declared.choice.Wanted.{Wanted}
-use Rattle.table.specs.declared.choice.Found.{Found}
+use Rattle.table.specs.declared.choice.Spot.{Spot}
 
 -- what an event wants of the table: SETUP a place under its own reference, with "reference or rights out of range" or not; others that of a live call
 abbrev pub wantedOf : Event → Wanted
@@ -27,8 +27,8 @@ abbrev pub ownOr : ℕ → Wanted → ℕ
 ownOr n (Wanted.New own ranged) = own
 ownOr n Wanted.Old = n
 
-abbrev pub referenceOf : ℕ → Event → ℕ
-referenceOf n e = ownOr n (wantedOf e)
+abbrev pub meantReferenceOf : ℕ → Event → ℕ
+meantReferenceOf n e = ownOr n (wantedOf e)
 
 abbrev pub isNew : Wanted → Bool
 isNew (Wanted.New own ranged) = true
@@ -41,22 +41,22 @@ abbrev pub inRange : Wanted → Bool
 inRange (Wanted.New own ranged) = ranged
 inRange Wanted.Old = true
 
-abbrev pub rangedOf : Event → Bool
-rangedOf e = inRange (wantedOf e)
+abbrev pub setupRangedOf : Event → Bool
+setupRangedOf e = inRange (wantedOf e)
 
 -- "SETUP, reference held by a live call", then "SETUP, no free place"
-abbrev pub newPlaceOf : Found → Found → Choice
-newPlaceOf (Found.At i) free = Choice.Refused Verdict.Held
-newPlaceOf Found.Nothing (Found.At j) = Choice.At j
-newPlaceOf Found.Nothing Found.Nothing = Choice.Refused Verdict.NoPlace
+abbrev pub newPlaceOf : Spot → Spot → Choice
+newPlaceOf (Spot.At i) free = Choice.Refused Verdict.Held
+newPlaceOf Spot.Nothing (Spot.At j) = Choice.At j
+newPlaceOf Spot.Nothing Spot.Nothing = Choice.Refused Verdict.NoPlace
 
 -- "other event, no live call of that reference"
-abbrev pub oldPlaceOf : Found → Choice
-oldPlaceOf (Found.At i) = Choice.At i
-oldPlaceOf Found.Nothing = Choice.Refused Verdict.NoCall
+abbrev pub oldPlaceOf : Spot → Choice
+oldPlaceOf (Spot.At i) = Choice.At i
+oldPlaceOf Spot.Nothing = Choice.Refused Verdict.NoCall
 
-unfoldable pub chooseOf : Bool → Event → Found → Found → Choice
+unfoldable pub chooseOf : Bool → Event → Spot → Spot → Choice
 chooseOf whole e held free =
     cond whole
-    (cond (opensOf e) (cond (rangedOf e) (newPlaceOf held free) (Choice.Refused (Verdict.Heard Answer.OutOfRange))) (oldPlaceOf held))
+    (cond (opensOf e) (cond (setupRangedOf e) (newPlaceOf held free) (Choice.Refused (Verdict.Heard Answer.OutOfRange))) (oldPlaceOf held))
     (Choice.Refused (Verdict.Heard Answer.Unsound))

@@ -5,7 +5,7 @@ use Rattle.call.specs.declared.Call.{Call}
 use Rattle.event.specs.declared.Event.{Event}
 use Rattle.table.specs.declared.choice.Choice.{Choice}
 use Rattle.table.specs.Table.{tableSound, findFrom, placeFrom}
-use Rattle.table.specs.Choice.{referenceOf, chooseOf}
+use Rattle.table.specs.Choice.{meantReferenceOf, chooseOf}
 
 unfoldable pub chosenOf : List Call → ℕ → Event → Choice
-chosenOf t n e = chooseOf (tableSound t) e (findFrom t 0 (referenceOf n e)) (placeFrom t 0)
+chosenOf t n e = chooseOf (tableSound t) e (findFrom t 0 (meantReferenceOf n e)) (placeFrom t 0)

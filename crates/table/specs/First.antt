@@ -4,11 +4,11 @@ use Prim.Native.Nat.{ℕ, _+_}
 use mathlib.Core.Bool.{cond}
 use mathlib.Core.List.{List, [], _∷_}
 use Rattle.call.specs.declared.Call.{Call}
-use Rattle.table.specs.declared.choice.Found.{Found}
+use Rattle.table.specs.declared.choice.Spot.{Spot}
 use Rattle.table.specs.declared.sought.Sought.{Sought}
 use Rattle.table.specs.Look.{meetsOf}
 
 -- the first record that meets what is sought, where the first record has the place i
-abbrev pub firstFrom : List Call → ℕ → Sought → Found
-firstFrom [] i s = Found.Nothing
-firstFrom (c ∷ cs) i s = cond (meetsOf c s) (Found.At i) (firstFrom cs (i + 1) s)
+abbrev pub firstFrom : List Call → ℕ → Sought → Spot
+firstFrom [] i s = Spot.Nothing
+firstFrom (c ∷ cs) i s = cond (meetsOf c s) (Spot.At i) (firstFrom cs (i + 1) s)

@@ -7,7 +7,7 @@ use Rattle.event.specs.declared.Event.{Event}
 use Rattle.call.specs.Sound.{freshCall}
 use Rattle.table.specs.declared.choice.Choice.{Choice}
 use Rattle.table.specs.declared.plan.Looked.{Looked}
-use Rattle.table.specs.declared.plan.Put.{Put}
+use Rattle.table.specs.declared.plan.Change.{Change}
 use Rattle.table.specs.Chosen.{chosenOf}
 
 abbrev pub lookAt : List Call → Choice → Looked
@@ -18,6 +18,6 @@ unfoldable pub lookOf : List Call → ℕ → Event → Looked
 lookOf t n e = lookAt t (chosenOf t n e)
 
 -- every other record is as it was; a place that the table does not have is none
-abbrev pub committed : List Call → Put → List Call
-committed t (Put.At i c) = set t i c
-committed t Put.Nothing = t
+abbrev pub committed : List Call → Change → List Call
+committed t (Change.At i c) = set t i c
+committed t Change.Nothing = t

@@ -5,7 +5,7 @@ use lib.Dec.{eqb}
 use Rattle.call.specs.declared.Call.{Call}
 use Rattle.call.specs.Sound.{soundOf}
 use Rattle.phases.specs.Phase.{liveOf}
-use Rattle.table.specs.declared.choice.Found.{Found}
+use Rattle.table.specs.declared.choice.Spot.{Spot}
 use Rattle.table.specs.declared.sought.Sought.{Sought}
 
 -- a live record of the reference n
@@ -21,13 +21,13 @@ abbrev pub meetsOf : Call → Sought → Bool
 meetsOf c Sought.Free = freeOf c
 meetsOf c (Sought.Live n) = liveAs c n
 
-abbrev pub isAt : Found → Bool
-isAt (Found.At i) = true
-isAt Found.Nothing = false
+abbrev pub isAt : Spot → Bool
+isAt (Spot.At i) = true
+isAt Spot.Nothing = false
 
 -- one turn of the search: where it starts, and what it has shown
-unfoldable pub laterOf : Call → ℕ → ℕ → ℕ
-laterOf c next end = cond (liveOf (c .phase)) next end
+unfoldable pub searchFromOf : Call → ℕ → ℕ → ℕ
+searchFromOf c next end = cond (liveOf (c .phase)) next end
 
-unfoldable pub faultOf : Call → Found → Bool
+unfoldable pub faultOf : Call → Spot → Bool
 faultOf c f = cond (soundOf c) (isAt f) true

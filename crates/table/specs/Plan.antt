@@ -2,12 +2,12 @@
 use Prim.Native.Nat.{ℕ}
 use Rattle.call.specs.declared.Call.{Call}
 use Rattle.call.specs.Sound.{freshCall}
-use Rattle.table.specs.declared.plan.Put.{Put}
+use Rattle.table.specs.declared.plan.Change.{Change}
 
-abbrev pub rowOf : Put → ℕ → ℕ
-rowOf (Put.At i c) end = i
-rowOf Put.Nothing end = end
+abbrev pub rowOf : Change → ℕ → ℕ
+rowOf (Change.At i c) end = i
+rowOf Change.Nothing end = end
 
-abbrev pub recordOf : Put → Call
-recordOf (Put.At i c) = c
-recordOf Put.Nothing = freshCall
+abbrev pub recordOf : Change → Call
+recordOf (Change.At i c) = c
+recordOf Change.Nothing = freshCall

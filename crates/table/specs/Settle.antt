@@ -34,19 +34,19 @@ changesOf Answer.OutOfRange = false
 changesOf Answer.Unsound = false
 
 -- what a place that held c holds after the reply r
-unfoldable pub keptOf : Call → Reply → Call
-keptOf c r = cond (changesOf (r .answer)) (r .call) c
+unfoldable pub recordKeptOf : Call → Reply → Call
+recordKeptOf c r = cond (changesOf (r .answer)) (r .call) c
 
-unfoldable pub outcomeOf : Reply → Outcome
-outcomeOf r = record { verdict = Verdict.Heard (r .answer); note = r .note; calling = r .calling; called = r .called }
+unfoldable pub heardOutcomeOf : Reply → Outcome
+heardOutcomeOf r = record { verdict = Verdict.Heard (r .answer); note = r .note; calling = r .calling; called = r .called }
 
 -- a number of the table's: "send nothing", and "Every other refusal has note 0"
-unfoldable pub refusalOf : Verdict → Outcome
-refusalOf v = record { verdict = v; note = Note.Clear; calling = Sent.Absent; called = Sent.Absent }
+unfoldable pub tableRefusalOf : Verdict → Outcome
+tableRefusalOf v = record { verdict = v; note = Note.Clear; calling = Sent.Absent; called = Sent.Absent }
 
 unfoldable pub settledOf : Call → Event → List ℕ → Settled
 settledOf c e element =
     record {
-      call = keptOf c (stepOf (subjectOf c e) e element);
-      outcome = outcomeOf (stepOf (subjectOf c e) e element);
+      call = recordKeptOf c (stepOf (subjectOf c e) e element);
+      outcome = heardOutcomeOf (stepOf (subjectOf c e) e element);
     }

@@ -8,11 +8,11 @@ use Rattle.call.specs.Sound.{freshCall}
 use Rattle.table.specs.declared.choice.Choice.{Choice}
 use Rattle.table.specs.declared.settle.Outcome.{Outcome}
 use Rattle.table.specs.Chosen.{chosenOf}
-use Rattle.table.specs.Settle.{settledOf, refusalOf}
+use Rattle.table.specs.Settle.{settledOf, tableRefusalOf}
 
 abbrev pub outcomeAt : List Call → Choice → Event → List ℕ → Outcome
 outcomeAt t (Choice.At i) e element = settledOf (getD t i freshCall) e element .outcome
-outcomeAt t (Choice.Refused v) e element = refusalOf v
+outcomeAt t (Choice.Refused v) e element = tableRefusalOf v
 
 -- every record but the chosen one is as it was
 abbrev pub tableAt : List Call → Choice → Event → List ℕ → List Call

@@ -7,7 +7,7 @@ use lib.ListN.{length}
 use Rattle.call.specs.declared.Call.{Call}
 use Rattle.call.specs.Sound.{soundOf}
 use Rattle.phases.specs.Phase.{liveOf}
-use Rattle.table.specs.declared.choice.Found.{Found}
+use Rattle.table.specs.declared.choice.Spot.{Spot}
 use Rattle.table.specs.Look.{liveAs, freeOf}
 
 -- "a lent table of at most 32 records"
@@ -15,14 +15,14 @@ abbrev pub greatestTable : ℕ
 greatestTable = 32
 
 -- the first live record of the reference n, where the first record has the place i
-abbrev pub findFrom : List Call → ℕ → ℕ → Found
-findFrom [] i n = Found.Nothing
-findFrom (c ∷ cs) i n = cond (liveAs c n) (Found.At i) (findFrom cs (i + 1) n)
+abbrev pub findFrom : List Call → ℕ → ℕ → Spot
+findFrom [] i n = Spot.Nothing
+findFrom (c ∷ cs) i n = cond (liveAs c n) (Spot.At i) (findFrom cs (i + 1) n)
 
 -- "SETUP takes the lowest free"
-abbrev pub placeFrom : List Call → ℕ → Found
-placeFrom [] i = Found.Nothing
-placeFrom (c ∷ cs) i = cond (freeOf c) (Found.At i) (placeFrom cs (i + 1))
+abbrev pub placeFrom : List Call → ℕ → Spot
+placeFrom [] i = Spot.Nothing
+placeFrom (c ∷ cs) i = cond (freeOf c) (Spot.At i) (placeFrom cs (i + 1))
 
 -- a live record of the reference n is among them
 abbrev pub heldIn : List Call → ℕ → Bool

@@ -1,6 +1,6 @@
 // Which record an event goes to, or the number that the table gives.
 ghost use mathlib.Core.Path.{_≡_};
-ghost use Rattle.table.specs.Choice.{wantedOf, referenceOf, opensOf, newPlaceOf, oldPlaceOf, chooseOf};
+ghost use Rattle.table.specs.Choice.{wantedOf, meantReferenceOf, opensOf, newPlaceOf, oldPlaceOf, chooseOf};
 use crate::verdict::Verdict;
 use answer::Answer;
 use event::Event;
@@ -8,7 +8,7 @@ use rights::reference_fits;
 use rights::rights_fit;
 
 // The place of a record, or that there is none.
-pub enum Found {
+pub enum Spot {
     At(usize),
     Nothing,
 }
@@ -40,7 +40,7 @@ fn wants(event: Event) -> Wanted
 
 // The reference that an event is about: SETUP has its own.
 pub(crate) fn reference_of(reference: u16, event: Event) -> u16
-    ensures { λ r. ⌜ r ≡ referenceOf reference event ⌝ }
+    ensures { λ r. ⌜ r ≡ meantReferenceOf reference event ⌝ }
 {
     match wants(event) {
         Wanted::New(own, ranged) => own,
@@ -59,29 +59,29 @@ pub(crate) fn opens(event: Event) -> bool
 }
 
 // A SETUP in range: 22, 21, or the lowest free place.
-fn new_place(held: Found, free: Found) -> Choice
+fn new_place(held: Spot, free: Spot) -> Choice
     ensures { λ r. ⌜ r ≡ newPlaceOf held free ⌝ }
 {
     match held {
-        Found::At(i) => Choice::Refused(Verdict::Held),
-        Found::Nothing => match free {
-            Found::At(i) => Choice::At(i),
-            Found::Nothing => Choice::Refused(Verdict::NoPlace),
+        Spot::At(i) => Choice::Refused(Verdict::Held),
+        Spot::Nothing => match free {
+            Spot::At(i) => Choice::At(i),
+            Spot::Nothing => Choice::Refused(Verdict::NoPlace),
         },
     }
 }
 
 // Any other event: 23, or the live call's place.
-fn old_place(held: Found) -> Choice
+fn old_place(held: Spot) -> Choice
     ensures { λ r. ⌜ r ≡ oldPlaceOf held ⌝ }
 {
     match held {
-        Found::At(i) => Choice::At(i),
-        Found::Nothing => Choice::Refused(Verdict::NoCall),
+        Spot::At(i) => Choice::At(i),
+        Spot::Nothing => Choice::Refused(Verdict::NoCall),
     }
 }
 
-pub(crate) fn choose(whole: bool, event: Event, held: Found, free: Found) -> Choice
+pub(crate) fn choose(whole: bool, event: Event, held: Spot, free: Spot) -> Choice
     ensures { λ r. ⌜ r ≡ chooseOf whole event held free ⌝ }
 {
     if whole {

@@ -4,7 +4,7 @@ ghost use lib.ListN.{getD, drop};
 ghost use Rattle.call.specs.Sound.{freshCall};
 ghost use Rattle.table.specs.First.{firstFrom};
 ghost use Rattle.table.specs.Table.{findFrom, placeFrom, callsSound, tableSound};
-use crate::choice::Found;
+use crate::choice::Spot;
 use crate::sought::Sought;
 use crate::sought::at_fault;
 use crate::sought::later;
@@ -34,22 +34,22 @@ pub(crate) fn call_at(t: &[Call], i: usize) -> Call
 }
 
 // The first record from a place on that meets what is sought.
-fn first_from(t: &[Call], start: usize, sought: Sought) -> Found
+fn first_from(t: &[Call], start: usize, sought: Sought) -> Spot
     ensures { λ r. ⌜ r ≡ firstFrom (drop start (now (t .entry))) start sought ⌝ }
 {
     let mut i: usize = start;
     while i < t.len() {
         let c = call_at(t, i);
         if meets(c, sought) {
-            return Found::At(i);
+            return Spot::At(i);
         }
         i += 1;
     }
-    Found::Nothing
+    Spot::Nothing
 }
 
 // The first live record of a reference.
-pub(crate) fn find(t: &[Call], reference: u16) -> Found
+pub(crate) fn find(t: &[Call], reference: u16) -> Spot
     ensures { λ r. ⌜ r ≡ findFrom (now (t .entry)) 0 reference ⌝ }
 {
     let f = first_from(t, 0, Sought::Live(reference));
@@ -57,7 +57,7 @@ pub(crate) fn find(t: &[Call], reference: u16) -> Found
 }
 
 // The lowest free place.
-pub(crate) fn place(t: &[Call]) -> Found
+pub(crate) fn place(t: &[Call]) -> Spot
     ensures { λ r. ⌜ r ≡ placeFrom (now (t .entry)) 0 ⌝ }
 {
     let f = first_from(t, 0, Sought::Free);

@@ -17,13 +17,13 @@ pub enum Looked {
 }
 
 // What is put into the table: a record at a place, or nothing.
-pub enum Put {
+pub enum Change {
     At(usize, Call),
     Nothing,
 }
 
 pub struct Plan {
-    pub put: Put,
+    pub put: Change,
     pub outcome: Outcome,
 }
 
@@ -40,7 +40,7 @@ pub(crate) fn barred(v: Verdict) -> Looked
 }
 
 // The two parts of a plan.
-pub(crate) fn put_of(p: Plan) -> Put
+pub(crate) fn put_of(p: Plan) -> Change
     ensures { λ r. ⌜ r ≡ p .put ⌝ }
 {
     p.put
@@ -53,21 +53,21 @@ pub(crate) fn told(p: Plan) -> Outcome
 }
 
 // Where something is put: nothing goes to the table's end, where there is no place.
-pub(crate) fn row(p: Put, end: usize) -> usize
+pub(crate) fn row(p: Change, end: usize) -> usize
     ensures { λ r. ⌜ r ≡ rowOf p end ⌝ }
 {
     match p {
-        Put::At(i, c) => i,
-        Put::Nothing => end,
+        Change::At(i, c) => i,
+        Change::Nothing => end,
     }
 }
 
-pub(crate) fn record(p: Put) -> Call
+pub(crate) fn record(p: Change) -> Call
     ensures { λ r. ⌜ r ≡ recordOf p ⌝ }
 {
     match p {
-        Put::At(i, c) => c,
-        Put::Nothing => Call::fresh(),
+        Change::At(i, c) => c,
+        Change::Nothing => Call::fresh(),
     }
 }
 
@@ -81,12 +81,12 @@ pub fn plans(l: Looked, event: Event, element: &[u8]) -> Plan
             let next = s.call;
             let o = s.outcome;
             Plan {
-                put: Put::At(i, next),
+                put: Change::At(i, next),
                 outcome: o,
             }
         }
         Looked::Refused(v) => Plan {
-            put: Put::Nothing,
+            put: Change::Nothing,
             outcome: refusal(v),
         },
     }

@@ -1,6 +1,6 @@
 // What an event makes of the record that it goes to, by value.
 ghost use mathlib.Core.Path.{_≡_};
-ghost use Rattle.table.specs.Settle.{subjectOf, changesOf, keptOf, outcomeOf, refusalOf, settledOf};
+ghost use Rattle.table.specs.Settle.{subjectOf, changesOf, recordKeptOf, heardOutcomeOf, tableRefusalOf, settledOf};
 use crate::choice::opens;
 use crate::verdict::Verdict;
 use answer::Answer;
@@ -43,7 +43,7 @@ fn changes(a: Answer) -> bool
 
 // What a place that held c holds after the reply.
 fn kept(c: Call, r: Reply) -> Call
-    ensures { λ k. ⌜ k ≡ keptOf c r ⌝ }
+    ensures { λ k. ⌜ k ≡ recordKeptOf c r ⌝ }
 {
     let next = r.call;
     let a = r.answer;
@@ -51,7 +51,7 @@ fn kept(c: Call, r: Reply) -> Call
 }
 
 fn answered(r: Reply) -> Outcome
-    ensures { λ o. ⌜ o ≡ outcomeOf r ⌝ }
+    ensures { λ o. ⌜ o ≡ heardOutcomeOf r ⌝ }
 {
     let a = r.answer;
     let note = r.note;
@@ -67,7 +67,7 @@ fn answered(r: Reply) -> Outcome
 
 // A number of the table's: nothing is noted and nothing sent.
 pub(crate) fn refusal(v: Verdict) -> Outcome
-    ensures { λ o. ⌜ o ≡ refusalOf v ⌝ }
+    ensures { λ o. ⌜ o ≡ tableRefusalOf v ⌝ }
 {
     Outcome {
         verdict: v,

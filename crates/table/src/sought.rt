@@ -1,7 +1,7 @@
 // One record of a table, looked at by value.
 ghost use mathlib.Core.Path.{_≡_};
-ghost use Rattle.table.specs.Look.{meetsOf, isAt, faultOf, laterOf};
-use crate::choice::Found;
+ghost use Rattle.table.specs.Look.{meetsOf, isAt, faultOf, searchFromOf};
+use crate::choice::Spot;
 use call::Call;
 
 // What a table is looked through for: a free place, or the live record of a reference.
@@ -19,17 +19,17 @@ pub(crate) fn meets(c: Call, sought: Sought) -> bool
     }
 }
 
-fn is_at(f: Found) -> bool
+fn is_at(f: Spot) -> bool
     ensures { λ r. ⌜ r ≡ isAt f ⌝ }
 {
     match f {
-        Found::At(i) => true,
-        Found::Nothing => false,
+        Spot::At(i) => true,
+        Spot::Nothing => false,
     }
 }
 
 // f: where a later live record has the reference of c.
-pub(crate) fn at_fault(c: Call, f: Found) -> bool
+pub(crate) fn at_fault(c: Call, f: Spot) -> bool
     ensures { λ r. ⌜ r ≡ faultOf c f ⌝ }
 {
     if c.sound() { is_at(f) } else { true }
@@ -37,7 +37,7 @@ pub(crate) fn at_fault(c: Call, f: Found) -> bool
 
 // Where to look for another record of the same reference: nowhere, if the record is not live.
 pub(crate) fn later(c: Call, next: usize, end: usize) -> usize
-    ensures { λ r. ⌜ r ≡ laterOf c next end ⌝ }
+    ensures { λ r. ⌜ r ≡ searchFromOf c next end ⌝ }
 {
     if c.live() { next } else { end }
 }

@@ -9,8 +9,8 @@ use crate::choice::choose;
 use crate::choice::reference_of;
 use crate::find;
 use crate::place;
+use crate::plan::Change;
 use crate::plan::Looked;
-use crate::plan::Put;
 use crate::plan::barred;
 use crate::plan::met;
 use crate::plan::plans;
@@ -42,7 +42,7 @@ pub fn look(t: &[Call], reference: u16, event: Event) -> Looked
 }
 
 // Puts a record at its place, or leaves the table as it is.
-pub fn commit(t: &mut [Call], p: Put)
+pub fn commit(t: &mut [Call], p: Change)
     ensures { λ _. ⌜ now (t .exit) ≡ committed (now (t .entry)) p ⌝ }
 {
     let c = record(p);

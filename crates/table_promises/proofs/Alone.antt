@@ -18,12 +18,12 @@ use Rattle.table.specs.declared.settle.Outcome.{Outcome}
 use Rattle.table.specs.Look.{liveAs}
 use Rattle.table.specs.Table.{tableSound}
 use Rattle.table.specs.Chosen.{chosenOf}
-use Rattle.table.specs.Choice.{referenceOf, opensOf, rangedOf}
+use Rattle.table.specs.Choice.{meantReferenceOf, opensOf, setupRangedOf}
 use Rattle.table.specs.Verdict.{verdictNumber}
-use Rattle.table.specs.Settle.{subjectOf, outcomeOf, refusalOf, settledOf}
+use Rattle.table.specs.Settle.{subjectOf, heardOutcomeOf, tableRefusalOf, settledOf}
 use Rattle.table.specs.Step.{outcomeAt, tableAt, stepOutcome, stepTable}
 use Rattle.table_promises.specs.Table.{heldCall}
-use Rattle.table_promises.specs.Alone.{Offered, Told, runOf, ownOf, eventsOf, fullOf, outcomesOf, Alone}
+use Rattle.table_promises.specs.Alone.{Offered, Told, tableRunOf, ownOf, eventsOf, fullOf, outcomesOf, Alone}
 use Rattle.logic.proofs.Decide.{never}
 use Rattle.table_promises.proofs.Counted.{found-call}
 use Rattle.table_promises.proofs.AloneKept.{opens-in}
@@ -40,11 +40,11 @@ lone-choice false ranged false met = Choice.Refused Verdict.NoCall
 
 -- where the event goes, or the number that the table gives; met: a SETUP met 21
 abbrev lone-at : ℕ → Call → Event → Bool → Choice
-lone-at n c e met = lone-choice (opensOf e) (rangedOf e) (liveAs c n) met
+lone-at n c e met = lone-choice (opensOf e) (setupRangedOf e) (liveAs c n) met
 
 abbrev lone-outcome : Call → Event → List ℕ → Choice → Outcome
 lone-outcome c e l (Choice.At i) = settledOf c e l .outcome
-lone-outcome c e l (Choice.Refused v) = refusalOf v
+lone-outcome c e l (Choice.Refused v) = tableRefusalOf v
 
 abbrev lone-next : ℕ → Call → Event → List ℕ → Choice → Call
 lone-next n c e l (Choice.At i) = keeps n (settledOf c e l .call)
@@ -79,7 +79,7 @@ not-full Answer.OutOfRange = refl
 not-full Answer.Unsound = refl
 
 settled-not-full : (c : Call) (e : Event) (l : List ℕ) → eqb (verdictNumber (settledOf c e l .outcome .verdict)) 21 ≡ false
-unfolding settledOf outcomeOf
+unfolding settledOf heardOutcomeOf
 settled-not-full c e l = not-full (stepOf (subjectOf c e) e l .answer)
 
 -- b says of a SETUP whether it met 21, and of another event nothing
@@ -93,14 +93,14 @@ record Agrees (t : List Call) (n : ℕ) (e : Event) (l : List ℕ) (b : Bool) (k
 
 module _ (t : List Call) (m : ℕ) (e : Event) (l : List ℕ) (s : tableSound t ≡ true) where
   abbrev own : ℕ
-  own = referenceOf m e
+  own = meantReferenceOf m e
 
   -- the same refusal
   refuses : (b : Bool) (v : Verdict) → lone-at own (heldCall t own) e b ≡ Choice.Refused v → Agrees t own e l b (Choice.Refused v)
   refuses b v h = record { outcome = rw h; next = rw h }
 
   agrees : (b : Bool) (k : Choice) → Chosen t own e k → Flag e (outcomeAt t k e l) b → Agrees t own e l b k
-  unfolding refusalOf
+  unfolding tableRefusalOf
   agrees b k (out eo ef) g = refuses b _ (rw (eo, ef))
   agrees b k (held eo ef i eh) g = refuses b _ (rw (eo, ef, held-if-found t own _ eh))
   agrees b k (full eo ef eh ep) g = refuses b _ (rw (eo, ef, held-if-found t own _ eh, g eo))
@@ -159,7 +159,7 @@ lone-more n c d u us k r =
     λ j. p .0 j ∷ (r ∙ (λ i. lone-run n (p .1 i) (eventsOf us) (rest-full o f (fullOf us) i))) j
 
 -- the step of an event of n is a lone step
-own-step : (n : ℕ) (o : Offered) (t : List Call) → tableSound t ≡ true → referenceOf (o .reference) (o .event) ≡ n → (b : Bool) → Flag (o .event) (toldAt t o .outcome) b →
+own-step : (n : ℕ) (o : Offered) (t : List Call) → tableSound t ≡ true → meantReferenceOf (o .reference) (o .event) ≡ n → (b : Bool) → Flag (o .event) (toldAt t o .outcome) b →
     LoneStep n (heldCall t n) (heldCall (after t o) n) (toldAt t o) b
 unfolding stepOutcome stepTable
 own-step n o t s e b g =
@@ -167,19 +167,19 @@ own-step n o t s e b g =
     (let p = step-agrees t (o .reference) (o .event) (o .element) s b g in (p .outcome, p .next))
 
 -- one event, of n or of another reference
-turn : (n : ℕ) (o : Offered) (os : List Offered) (t : List Call) (b : Bool) → eqb (referenceOf (o .reference) (o .event)) n ≡ b → tableSound t ≡ true →
-    Lone n (heldCall (after t o) n) (ownOf n (runOf (after t o) os)) →
-    Lone n (heldCall t n) (cond b (toldAt t o ∷ ownOf n (runOf (after t o) os)) (ownOf n (runOf (after t o) os)))
+turn : (n : ℕ) (o : Offered) (os : List Offered) (t : List Call) (b : Bool) → eqb (meantReferenceOf (o .reference) (o .event)) n ≡ b → tableSound t ≡ true →
+    Lone n (heldCall (after t o) n) (ownOf n (tableRunOf (after t o) os)) →
+    Lone n (heldCall t n) (cond b (toldAt t o ∷ ownOf n (tableRunOf (after t o) os)) (ownOf n (tableRunOf (after t o) os)))
 turn n o os t true e s r =
-    lone-more n (heldCall t n) (heldCall (after t o) n) (toldAt t o) (ownOf n (runOf (after t o) os)) (own-step n o t s (eqb-true _ n e)) r
+    lone-more n (heldCall t n) (heldCall (after t o) n) (toldAt t o) (ownOf n (tableRunOf (after t o) os)) (own-step n o t s (eqb-true _ n e)) r
 turn n o os t false e s r =
-    subst (λ (c : Call). Lone n c (ownOf n (runOf (after t o) os))) (step-other t (o .reference) (o .event) (o .element) s n (eqb-false _ n e)) r
+    subst (λ (c : Call). Lone n c (ownOf n (tableRunOf (after t o) os))) (step-other t (o .reference) (o .event) (o .element) s n (eqb-false _ n e)) r
 
 -- the answers of n in a run are those of the lone run from its record
-lone : (n : ℕ) (os : List Offered) (t : List Call) → tableSound t ≡ true → Lone n (heldCall t n) (ownOf n (runOf t os))
+lone : (n : ℕ) (os : List Offered) (t : List Call) → tableSound t ≡ true → Lone n (heldCall t n) (ownOf n (tableRunOf t os))
 lone n [] t s = refl
 lone n (o ∷ os) t s =
-    turn n o os t (eqb (referenceOf (o .reference) (o .event)) n) refl s (lone n os (after t o) (step-sound t (o .reference) (o .event) (o .element) s))
+    turn n o os t (eqb (meantReferenceOf (o .reference) (o .event)) n) refl s (lone n os (after t o) (step-sound t (o .reference) (o .event) (o .element) s))
 
 pub alone : Alone
 alone n t t′ os os′ a a′ ee ef =

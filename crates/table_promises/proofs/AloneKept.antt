@@ -13,9 +13,9 @@ use Rattle.call.specs.Reply.{barOf, heardOf}
 use Rattle.call.specs.Setup.{filledOf, proceedsOf, setupOf}
 use Rattle.call.specs.Sound.{soundOf, freshCall}
 use Rattle.call.specs.Step.{stepOf}
-use Rattle.table.specs.Choice.{referenceOf, opensOf, rangedOf}
+use Rattle.table.specs.Choice.{meantReferenceOf, opensOf, setupRangedOf}
 use Rattle.call_promises.specs.Ranges.{InRangeCall}
-use Rattle.table.specs.Settle.{subjectOf, changesOf, keptOf, settledOf}
+use Rattle.table.specs.Settle.{subjectOf, changesOf, recordKeptOf, settledOf}
 use Rattle.logic.proofs.Decide.{never, by-cond, both}
 use Rattle.call_promises.proofs.Kept.{NotSetup, Follows, same, step-in, setup-in}
 use Rattle.call_promises.proofs.Ranges.{reference-range, rights-range}
@@ -26,13 +26,13 @@ not-setup e o reference rights q h = never (ap opensOf h) o
 
 module _ (c : Call) where
   pub settled-in : (e : Event) (l : List ℕ) → opensOf e ≡ false → Follows c (settledOf c e l .call)
-  unfolding settledOf keptOf subjectOf
+  unfolding settledOf recordKeptOf subjectOf
   settled-in e l o =
       rw o (by-cond (Follows c) (changesOf (stepOf c e l .answer)) (λ _. step-in c e l (not-setup e o)) (λ _. same c))
 
 -- a SETUP in range fills the whole record
 pub record Opens (c : Call) (m : ℕ) (e : Event) (l : List ℕ) : Type 0 where
-  pub reference : settledOf c e l .call .reference ≡ referenceOf m e
+  pub reference : settledOf c e l .call .reference ≡ meantReferenceOf m e
   pub fields : InRangeCall (settledOf c e l .call)
   pub whatever : (d : Call) → settledOf c e l ≡ settledOf d e l
 
@@ -42,7 +42,7 @@ module _ (c : Call) (m reference : ℕ) (rights : Rights) (q : Requests) (l : Li
   filled-reference = refl
 
   filled : (d : Call) → (referenceFitsOf reference && rightsFitOf rights) ≡ true → settledOf d (Event.Setup reference rights q) l .call ≡ proceedsOf reference rights q (seenOf l (rights .limit)) .call
-  unfolding settledOf keptOf subjectOf setupOf heardOf barOf soundOf freshCall proceedsOf
+  unfolding settledOf recordKeptOf subjectOf setupOf heardOf barOf soundOf freshCall proceedsOf
   filled d f = rw f
 
   opened : (referenceFitsOf reference && rightsFitOf rights) ≡ true → Opens c m (Event.Setup reference rights q) l
@@ -68,5 +68,5 @@ of-setup P h Event.Tick o = never o refl
 of-setup P h Event.CallProceeding o = never o refl
 of-setup P h Event.CongestionControl o = never o refl
 
-pub opens-in : (c : Call) (m : ℕ) (e : Event) (l : List ℕ) → opensOf e ≡ true → rangedOf e ≡ true → Opens c m e l
-opens-in c m e l = of-setup (λ e. rangedOf e ≡ true → Opens c m e l) (λ reference rights q f. opened c m reference rights q l f) e
+pub opens-in : (c : Call) (m : ℕ) (e : Event) (l : List ℕ) → opensOf e ≡ true → setupRangedOf e ≡ true → Opens c m e l
+opens-in c m e l = of-setup (λ e. setupRangedOf e ≡ true → Opens c m e l) (λ reference rights q f. opened c m reference rights q l f) e

@@ -28,7 +28,7 @@ use Rattle.call.specs.Tick.{runsOf, passesTickOf, tickOf}
 use Rattle.table.specs.Table.{tableSound}
 use Rattle.table.specs.Chosen.{chosenOf}
 use Rattle.table.specs.Choice.{chooseOf}
-use Rattle.table.specs.Settle.{subjectOf, keptOf, outcomeOf, refusalOf, settledOf}
+use Rattle.table.specs.Settle.{subjectOf, recordKeptOf, heardOutcomeOf, tableRefusalOf, settledOf}
 use Rattle.table.specs.Step.{stepOutcome, stepTable}
 use Rattle.table_promises.specs.Alone.{AllFresh, Met, Needed}
 
@@ -48,9 +48,9 @@ two-places : AllFresh (freshCall ∷ freshCall ∷ [])
 two-places = record { most = omega arith; fresh = fresh-more (freshCall ∷ []) (one-place .fresh) }
 
 pub met : Met
-unfolding emptyOf meterFitsOf passageOf wellFormedOf seenOf goesOutOf rightsFitOf referenceFitsOf remainsOf firstStandingOf standingsOf lacksOf failedOf settlesOf nobodyAsks noRights noServices emptyMeters freshCall fieldsFitOf soundOf inPhaseOf barOf refusedOf heardOf replyOf setupPhaseOf filledOf setupCarriesOf proceedsOf setupOf answeredCallOf goesOnOf clearsOf alertingFatesOf answeredOf alertingOf metersOf informationPassageOf carriedOf withElementOf informationOf endsOf releaseCompleteOf refillsOf runsOf passesTickOf tickOf tableSound chooseOf chosenOf subjectOf keptOf outcomeOf refusalOf settledOf stepOutcome stepTable
+unfolding emptyOf meterFitsOf passageOf wellFormedOf seenOf goesOutOf rightsFitOf referenceFitsOf remainsOf firstStandingOf standingsOf lacksOf failedOf settlesOf nobodyAsks noRights noServices emptyMeters freshCall fieldsFitOf soundOf inPhaseOf barOf refusedOf heardOf replyOf setupPhaseOf filledOf setupCarriesOf proceedsOf setupOf answeredCallOf goesOnOf clearsOf alertingFatesOf answeredOf alertingOf metersOf informationPassageOf carriedOf withElementOf informationOf endsOf releaseCompleteOf refillsOf runsOf passesTickOf tickOf tableSound chooseOf chosenOf subjectOf recordKeptOf heardOutcomeOf tableRefusalOf settledOf stepOutcome stepTable
 met = record { one = one-place; two = two-places; events = refl; full = refl; numbers = refl }
 
 pub needed : Needed
-unfolding rightsFitOf referenceFitsOf freshCall soundOf barOf heardOf proceedsOf setupOf tableSound chooseOf chosenOf subjectOf keptOf outcomeOf refusalOf settledOf stepOutcome stepTable
+unfolding rightsFitOf referenceFitsOf freshCall soundOf barOf heardOf proceedsOf setupOf tableSound chooseOf chosenOf subjectOf recordKeptOf heardOutcomeOf tableRefusalOf settledOf stepOutcome stepTable
 needed = record { none = no-places; events = refl; nowhere = refl; somewhere = refl }

@@ -17,11 +17,11 @@ use Rattle.event.specs.declared.Event.{Event}
 use Rattle.call.specs.Sound.{freshCall}
 use Rattle.table.specs.declared.choice.Choice.{Choice}
 use Rattle.table.specs.declared.verdict.Verdict.{Verdict}
-use Rattle.table.specs.declared.choice.Found.{Found}
+use Rattle.table.specs.declared.choice.Spot.{Spot}
 use Rattle.table.specs.Look.{liveAs, isAt}
 use Rattle.table.specs.Table.{findFrom, placeFrom, heldIn, tableSound}
 use Rattle.table.specs.Chosen.{chosenOf}
-use Rattle.table.specs.Choice.{referenceOf, opensOf, rangedOf, newPlaceOf, oldPlaceOf, chooseOf}
+use Rattle.table.specs.Choice.{meantReferenceOf, opensOf, setupRangedOf, newPlaceOf, oldPlaceOf, chooseOf}
 use Rattle.table.specs.Settle.{settledOf}
 use Rattle.table.specs.Step.{tableAt, stepTable}
 use Rattle.call_promises.specs.Ranges.{InRangeCall}
@@ -51,7 +51,7 @@ held-live : (t : List Call) (n : ℕ) → liveAs (heldCall t n) n ≡ heldIn t n
 held-live [] n = fresh-not n
 held-live (c ∷ t) n = live-cond n (liveAs c n) (heldIn t n) c (heldCall t n) refl (held-live t n)
 
-pub held-if-found : (t : List Call) (n : ℕ) (h : Found) → findFrom t 0 n ≡ h → liveAs (heldCall t n) n ≡ isAt h
+pub held-if-found : (t : List Call) (n : ℕ) (h : Spot) → findFrom t 0 n ≡ h → liveAs (heldCall t n) n ≡ isAt h
 held-if-found t n h e = held-live t n ∙ sym (at-held t 0 n) ∙ ap isAt e
 
 -- a live record stands within the table
@@ -80,15 +80,15 @@ apart : (t : List Call) (i j n : ℕ) (b : Bool) → ltb i j ≡ b → tableSoun
 apart t i j n true e s d h k = not-faulty t s (twins i j n (ltb-true i j e) h k)
 apart t i j n false e s d h k = let w = ltb-false i j e in not-faulty t s (twins j i n (let v : j < i = omega arith in v) k h)
 
-nobody-found : (t : List Call) (n : ℕ) → findFrom t 0 n ≡ Found.Nothing → Nobody t n
+nobody-found : (t : List Call) (n : ℕ) → findFrom t 0 n ≡ Spot.Nothing → Nobody t n
 nobody-found t n e j = no-at t j n (λ h. not-found t n e (j, h))
 
-module _ (t : List Call) (n i : ℕ) (s : tableSound t ≡ true) (e : findFrom t 0 n ≡ Found.At i) where
+module _ (t : List Call) (n i : ℕ) (s : tableSound t ≡ true) (e : findFrom t 0 n ≡ Spot.At i) where
   only-found : Only t i n
   only-found j d = no-at t j n (λ h. apart t i j n (ltb i j) refl s d (found-live t i n e) h)
 
 -- the place that a SETUP takes is not live
-free-at : (t : List Call) (i : ℕ) → placeFrom t 0 ≡ Found.At i → liveOf (getD t i freshCall .phase) ≡ false
+free-at : (t : List Call) (i : ℕ) → placeFrom t 0 ≡ Spot.At i → liveOf (getD t i freshCall .phase) ≡ false
 free-at t i e = not-so _ (λ h. not-free _ h (found-lowest t i e .free))
 
 -- ---- one record put into the table
@@ -168,29 +168,29 @@ sound-if t false e h = absurd (h (is-faulty t e))
 
 -- ---- what is chosen
 pub data Chosen (t : List Call) (n : ℕ) (e : Event) : Choice → Type 0 where
-  out : opensOf e ≡ true → rangedOf e ≡ false → Chosen t n e (Choice.Refused (Verdict.Heard Answer.OutOfRange))
-  held : opensOf e ≡ true → rangedOf e ≡ true → (i : ℕ) → findFrom t 0 n ≡ Found.At i → Chosen t n e (Choice.Refused Verdict.Held)
-  full : opensOf e ≡ true → rangedOf e ≡ true → findFrom t 0 n ≡ Found.Nothing → placeFrom t 0 ≡ Found.Nothing → Chosen t n e (Choice.Refused Verdict.NoPlace)
-  new : opensOf e ≡ true → rangedOf e ≡ true → findFrom t 0 n ≡ Found.Nothing → (i : ℕ) → placeFrom t 0 ≡ Found.At i → Chosen t n e (Choice.At i)
-  none : opensOf e ≡ false → findFrom t 0 n ≡ Found.Nothing → Chosen t n e (Choice.Refused Verdict.NoCall)
-  old : opensOf e ≡ false → (i : ℕ) → findFrom t 0 n ≡ Found.At i → Chosen t n e (Choice.At i)
+  out : opensOf e ≡ true → setupRangedOf e ≡ false → Chosen t n e (Choice.Refused (Verdict.Heard Answer.OutOfRange))
+  held : opensOf e ≡ true → setupRangedOf e ≡ true → (i : ℕ) → findFrom t 0 n ≡ Spot.At i → Chosen t n e (Choice.Refused Verdict.Held)
+  full : opensOf e ≡ true → setupRangedOf e ≡ true → findFrom t 0 n ≡ Spot.Nothing → placeFrom t 0 ≡ Spot.Nothing → Chosen t n e (Choice.Refused Verdict.NoPlace)
+  new : opensOf e ≡ true → setupRangedOf e ≡ true → findFrom t 0 n ≡ Spot.Nothing → (i : ℕ) → placeFrom t 0 ≡ Spot.At i → Chosen t n e (Choice.At i)
+  none : opensOf e ≡ false → findFrom t 0 n ≡ Spot.Nothing → Chosen t n e (Choice.Refused Verdict.NoCall)
+  old : opensOf e ≡ false → (i : ℕ) → findFrom t 0 n ≡ Spot.At i → Chosen t n e (Choice.At i)
 
-choices : (t : List Call) (n : ℕ) (e : Event) (o f : Bool) (h p : Found) → opensOf e ≡ o → rangedOf e ≡ f → findFrom t 0 n ≡ h → placeFrom t 0 ≡ p
+choices : (t : List Call) (n : ℕ) (e : Event) (o f : Bool) (h p : Spot) → opensOf e ≡ o → setupRangedOf e ≡ f → findFrom t 0 n ≡ h → placeFrom t 0 ≡ p
     → Chosen t n e (cond o (cond f (newPlaceOf h p) (Choice.Refused (Verdict.Heard Answer.OutOfRange))) (oldPlaceOf h))
 choices t n e true false h p eo ef eh ep = out eo ef
-choices t n e true true (Found.At i) p eo ef eh ep = held eo ef i eh
-choices t n e true true Found.Nothing Found.Nothing eo ef eh ep = full eo ef eh ep
-choices t n e true true Found.Nothing (Found.At i) eo ef eh ep = new eo ef eh i ep
-choices t n e false f Found.Nothing p eo ef eh ep = none eo eh
-choices t n e false f (Found.At i) p eo ef eh ep = old eo i eh
+choices t n e true true (Spot.At i) p eo ef eh ep = held eo ef i eh
+choices t n e true true Spot.Nothing Spot.Nothing eo ef eh ep = full eo ef eh ep
+choices t n e true true Spot.Nothing (Spot.At i) eo ef eh ep = new eo ef eh i ep
+choices t n e false f Spot.Nothing p eo ef eh ep = none eo eh
+choices t n e false f (Spot.At i) p eo ef eh ep = old eo i eh
 
-pub chosen : (t : List Call) (m : ℕ) (e : Event) → tableSound t ≡ true → Chosen t (referenceOf m e) e (chosenOf t m e)
+pub chosen : (t : List Call) (m : ℕ) (e : Event) → tableSound t ≡ true → Chosen t (meantReferenceOf m e) e (chosenOf t m e)
 unfolding chosenOf chooseOf
-chosen t m e s = rw s (choices t (referenceOf m e) e (opensOf e) (rangedOf e) (findFrom t 0 (referenceOf m e)) (placeFrom t 0) refl refl refl refl)
+chosen t m e s = rw s (choices t (meantReferenceOf m e) e (opensOf e) (setupRangedOf e) (findFrom t 0 (meantReferenceOf m e)) (placeFrom t 0) refl refl refl refl)
 
 -- ---- one step
 module _ (t : List Call) (m : ℕ) (e : Event) (l : List ℕ) (s : tableSound t ≡ true) where
-  pub placed-new : (i : ℕ) → opensOf e ≡ true → rangedOf e ≡ true → findFrom t 0 (referenceOf m e) ≡ Found.Nothing → placeFrom t 0 ≡ Found.At i → Placed t (referenceOf m e) i (settledOf (getD t i freshCall) e l .call)
+  pub placed-new : (i : ℕ) → opensOf e ≡ true → setupRangedOf e ≡ true → findFrom t 0 (meantReferenceOf m e) ≡ Spot.Nothing → placeFrom t 0 ≡ Spot.At i → Placed t (meantReferenceOf m e) i (settledOf (getD t i freshCall) e l .call)
   placed-new i eo ef eh ep =
       let r = opens-in (getD t i freshCall) m e l eo ef in
       record {
@@ -198,12 +198,12 @@ module _ (t : List Call) (m : ℕ) (e : Event) (l : List ℕ) (s : tableSound t 
         before = λ k _. ap (λ (b : Bool). b && eqb (getD t i freshCall .reference) k) (free-at t i ep);
         reference = r .reference;
         fields = λ h. h (r .fields);
-        only = λ j _. nobody-found t (referenceOf m e) eh j;
+        only = λ j _. nobody-found t (meantReferenceOf m e) eh j;
       }
 
-  pub placed-old : (i : ℕ) → opensOf e ≡ false → findFrom t 0 (referenceOf m e) ≡ Found.At i → Placed t (referenceOf m e) i (settledOf (getD t i freshCall) e l .call)
+  pub placed-old : (i : ℕ) → opensOf e ≡ false → findFrom t 0 (meantReferenceOf m e) ≡ Spot.At i → Placed t (meantReferenceOf m e) i (settledOf (getD t i freshCall) e l .call)
   placed-old i eo eh =
-      let n = referenceOf m e in
+      let n = meantReferenceOf m e in
       let a = found-live t i n eh in
       let r = settled-in (getD t i freshCall) e l eo in
       record {
@@ -214,7 +214,7 @@ module _ (t : List Call) (m : ℕ) (e : Event) (l : List ℕ) (s : tableSound t 
         only = only-found t n i s eh;
       }
 
-  sound-at : (k : Choice) → Chosen t (referenceOf m e) e k → Faulty (tableAt t k e l) → ⊥
+  sound-at : (k : Choice) → Chosen t (meantReferenceOf m e) e k → Faulty (tableAt t k e l) → ⊥
   sound-at k (out eo ef) = not-faulty t s
   sound-at k (held eo ef i eh) = not-faulty t s
   sound-at k (full eo ef eh ep) = not-faulty t s
@@ -226,7 +226,7 @@ module _ (t : List Call) (m : ℕ) (e : Event) (l : List ℕ) (s : tableSound t 
   unfolding stepTable
   step-sound = sound-if (stepTable t m e l) _ refl (sound-at (chosenOf t m e) (chosen t m e s))
 
-  other-at : (n : ℕ) → (referenceOf m e ≡ n → ⊥) → (k : Choice) → Chosen t (referenceOf m e) e k → heldCall (tableAt t k e l) n ≡ heldCall t n
+  other-at : (n : ℕ) → (meantReferenceOf m e ≡ n → ⊥) → (k : Choice) → Chosen t (meantReferenceOf m e) e k → heldCall (tableAt t k e l) n ≡ heldCall t n
   other-at n h k (out eo ef) = refl
   other-at n h k (held eo ef i eh) = refl
   other-at n h k (full eo ef eh ep) = refl
@@ -235,7 +235,7 @@ module _ (t : List Call) (m : ℕ) (e : Event) (l : List ℕ) (s : tableSound t 
   other-at n h k (old eo i eh) = placed-other t _ i _ (placed-old i eo eh) n h
 
   -- another reference's event leaves the record of n as it was
-  pub step-other : (n : ℕ) → (referenceOf m e ≡ n → ⊥) → heldCall (stepTable t m e l) n ≡ heldCall t n
+  pub step-other : (n : ℕ) → (meantReferenceOf m e ≡ n → ⊥) → heldCall (stepTable t m e l) n ≡ heldCall t n
   unfolding stepTable
   step-other n h = other-at n h (chosenOf t m e) (chosen t m e s)
 

@@ -16,7 +16,7 @@ use Rattle.call.specs.Sound.{freshCall, soundOf, fieldsFitOf}
 use Rattle.table.specs.Look.{liveAs, isAt}
 use Rattle.table.specs.Table.{findFrom, placeFrom, heldIn, callsSound, tableSound}
 use Rattle.table_promises.specs.Table.{Free, LiveAt, Held, Full, Faulty, over, twins, unsound, heldCall, Lowest}
-use Rattle.table.specs.declared.choice.Found.{Found}
+use Rattle.table.specs.declared.choice.Spot.{Spot}
 use Rattle.logic.proofs.Tests.{both, and-true}
 use Rattle.call_promises.specs.Ranges.{InRangeCall}
 use Rattle.call_promises.proofs.Ranges.{fields-range}
@@ -79,27 +79,27 @@ held-at [] n i h = absurd (not-suc-le-zero (h .within))
 held-at (c ∷ l) n zero h = or-left (liveAs c n) (heldIn l n) (live-first c l n h)
 held-at (c ∷ l) n (suc i) h = or-right (liveAs c n) (heldIn l n) (held-at l n i (nearer c l i n h))
 
-pub found-held : (l : List Call) (n i : ℕ) → findFrom l 0 n ≡ Found.At i → Held l n
+pub found-held : (l : List Call) (n i : ℕ) → findFrom l 0 n ≡ Spot.At i → Held l n
 found-held l n i e = is-held l n (sym (at-held l 0 n) ∙ ap isAt e)
 
-pub not-found : (l : List Call) (n : ℕ) → findFrom l 0 n ≡ Found.Nothing → Held l n → ⊥
+pub not-found : (l : List Call) (n : ℕ) → findFrom l 0 n ≡ Spot.Nothing → Held l n → ⊥
 not-found l n e h = true≢false (sym (held-at l n (h .0) (h .1)) ∙ sym (at-held l 0 n) ∙ ap isAt e)
 
 -- ---- places
-one-full : (c : Call) (l : List Call) (i : ℕ) (t : Bool) → liveOf (c .phase) ≡ t → cond (not t) (Found.At i) (placeFrom l (i + 1)) ≡ Found.Nothing → (placeFrom l (i + 1) ≡ Found.Nothing → Full l) → Full (c ∷ l)
+one-full : (c : Call) (l : List Call) (i : ℕ) (t : Bool) → liveOf (c .phase) ≡ t → cond (not t) (Spot.At i) (placeFrom l (i + 1)) ≡ Spot.Nothing → (placeFrom l (i + 1) ≡ Spot.Nothing → Full l) → Full (c ∷ l)
 one-full c l i true e f k zero h = not-free (c .phase) e
 one-full c l i true e f k (suc j) h = k f j (le-of-suc-le-suc h)
 one-full c l i false e f k j h = absurd (true≢false (ap isAt f))
 
-pub no-place : (l : List Call) (i : ℕ) → placeFrom l i ≡ Found.Nothing → Full l
+pub no-place : (l : List Call) (i : ℕ) → placeFrom l i ≡ Spot.Nothing → Full l
 no-place [] i e j h = absurd (not-suc-le-zero h)
 no-place (c ∷ l) i e j h = one-full c l i (liveOf (c .phase)) refl e (λ f. no-place l (i + 1) f) j h
 
-not-full-more : (c : Call) (l : List Call) (i j : ℕ) (t : Bool) → liveOf (c .phase) ≡ t → cond (not t) (Found.At i) (placeFrom l (i + 1)) ≡ Found.At j → Full (c ∷ l) → (placeFrom l (i + 1) ≡ Found.At j → Full l → ⊥) → ⊥
+not-full-more : (c : Call) (l : List Call) (i j : ℕ) (t : Bool) → liveOf (c .phase) ≡ t → cond (not t) (Spot.At i) (placeFrom l (i + 1)) ≡ Spot.At j → Full (c ∷ l) → (placeFrom l (i + 1) ≡ Spot.At j → Full l → ⊥) → ⊥
 not-full-more c l i j true e f h k = k f (λ m w. h (suc m) (omega (arith, w)))
 not-full-more c l i j false e f h k = h 0 (omega arith) (is-free (c .phase) e)
 
-pub not-full : (l : List Call) (i j : ℕ) → placeFrom l i ≡ Found.At j → Full l → ⊥
+pub not-full : (l : List Call) (i j : ℕ) → placeFrom l i ≡ Spot.At j → Full l → ⊥
 not-full [] i j e h = true≢false (sym (ap isAt e))
 not-full (c ∷ l) i j e h = not-full-more c l i j (liveOf (c .phase)) refl e h (λ f g. not-full l (i + 1) j f g)
 
@@ -176,31 +176,31 @@ unfolding tableSound
 is-faulty l e = faulty-cases l (leb (length l) 32) refl e
 
 -- ---- the record that is found
-record-more : (c : Call) (l : List Call) (i j n : ℕ) (t : Bool) → liveAs c n ≡ t → cond t (Found.At j) (findFrom l (j + 1) n) ≡ Found.At i
-    → (findFrom l (j + 1) n ≡ Found.At i → (m : ℕ) × (i ≡ j + 1 + m) × (getD l m freshCall ≡ heldCall l n)) → (m : ℕ) × (i ≡ j + m) × (getD (c ∷ l) m freshCall ≡ cond t c (heldCall l n))
+record-more : (c : Call) (l : List Call) (i j n : ℕ) (t : Bool) → liveAs c n ≡ t → cond t (Spot.At j) (findFrom l (j + 1) n) ≡ Spot.At i
+    → (findFrom l (j + 1) n ≡ Spot.At i → (m : ℕ) × (i ≡ j + 1 + m) × (getD l m freshCall ≡ heldCall l n)) → (m : ℕ) × (i ≡ j + m) × (getD (c ∷ l) m freshCall ≡ cond t c (heldCall l n))
 record-more c l i j n true et e k = (0, (let same : j ≡ i = same-found j i e in omega (arith, same)), refl)
 record-more c l i j n false et e k = let r : (m : ℕ) × (i ≡ j + 1 + m) × (getD l m freshCall ≡ heldCall l n) = k e in (suc (r .0), (let w : i ≡ j + 1 + r .0 = r .1 in omega (arith, w)), r .2)
 
-found-record : (l : List Call) (i j n : ℕ) → findFrom l j n ≡ Found.At i → (m : ℕ) × (i ≡ j + m) × (getD l m freshCall ≡ heldCall l n)
+found-record : (l : List Call) (i j n : ℕ) → findFrom l j n ≡ Spot.At i → (m : ℕ) × (i ≡ j + m) × (getD l m freshCall ≡ heldCall l n)
 found-record [] i j n e = absurd (true≢false (sym (ap isAt e)))
 found-record (c ∷ l) i j n e = record-more c l i j n (liveAs c n) refl e (λ f. found-record l i (j + 1) n f)
 
-pub found-call : (l : List Call) (i n : ℕ) → findFrom l 0 n ≡ Found.At i → getD l i freshCall ≡ heldCall l n
+pub found-call : (l : List Call) (i n : ℕ) → findFrom l 0 n ≡ Spot.At i → getD l i freshCall ≡ heldCall l n
 found-call l i n e =
     let r : (m : ℕ) × (i ≡ 0 + m) × (getD l m freshCall ≡ heldCall l n) = found-record l i 0 n e in
     let same : i ≡ r .0 = (let w : i ≡ 0 + r .0 = r .1 in omega (arith, w)) in ap (λ (m : ℕ). getD l m freshCall) same ∙ r .2
 
 -- ---- what stands at the place that is found, and at the lowest free one
-live-more : (c : Call) (l : List Call) (i j n : ℕ) (t : Bool) → liveAs c n ≡ t → cond t (Found.At j) (findFrom l (j + 1) n) ≡ Found.At i
-    → (findFrom l (j + 1) n ≡ Found.At i → (m : ℕ) × (i ≡ j + 1 + m) × LiveAt l m n) → (m : ℕ) × (i ≡ j + m) × LiveAt (c ∷ l) m n
+live-more : (c : Call) (l : List Call) (i j n : ℕ) (t : Bool) → liveAs c n ≡ t → cond t (Spot.At j) (findFrom l (j + 1) n) ≡ Spot.At i
+    → (findFrom l (j + 1) n ≡ Spot.At i → (m : ℕ) × (i ≡ j + 1 + m) × LiveAt l m n) → (m : ℕ) × (i ≡ j + m) × LiveAt (c ∷ l) m n
 live-more c l i j n true et e k = (0, (let same : j ≡ i = same-found j i e in omega (arith, same)), first-live c l n et)
 live-more c l i j n false et e k = let r : (m : ℕ) × (i ≡ j + 1 + m) × LiveAt l m n = k e in (suc (r .0), (let w : i ≡ j + 1 + r .0 = r .1 in omega (arith, w)), further c l (r .0) n (r .2))
 
-live-found : (l : List Call) (i j n : ℕ) → findFrom l j n ≡ Found.At i → (m : ℕ) × (i ≡ j + m) × LiveAt l m n
+live-found : (l : List Call) (i j n : ℕ) → findFrom l j n ≡ Spot.At i → (m : ℕ) × (i ≡ j + m) × LiveAt l m n
 live-found [] i j n e = absurd (true≢false (sym (ap isAt e)))
 live-found (c ∷ l) i j n e = live-more c l i j n (liveAs c n) refl e (λ f. live-found l i (j + 1) n f)
 
-pub found-live : (l : List Call) (i n : ℕ) → findFrom l 0 n ≡ Found.At i → LiveAt l i n
+pub found-live : (l : List Call) (i n : ℕ) → findFrom l 0 n ≡ Spot.At i → LiveAt l i n
 found-live l i n e =
     let r : (m : ℕ) × (i ≡ 0 + m) × LiveAt l m n = live-found l i 0 n e in
     let same : r .0 ≡ i = (let w : i ≡ 0 + r .0 = r .1 in omega (arith, w)) in subst (λ (m : ℕ). LiveAt l m n) same (r .2)
@@ -209,8 +209,8 @@ lower-more : (c : Call) (l : List Call) (m : ℕ) → (Free (c .phase) → ⊥) 
 lower-more c l m h k zero w = h
 lower-more c l m h k (suc j) w = k .lower j (le-of-suc-le-suc w)
 
-free-more : (c : Call) (l : List Call) (i j : ℕ) (t : Bool) → liveOf (c .phase) ≡ t → cond (not t) (Found.At j) (placeFrom l (j + 1)) ≡ Found.At i
-    → (placeFrom l (j + 1) ≡ Found.At i → (m : ℕ) × (i ≡ j + 1 + m) × Lowest l m) → (m : ℕ) × (i ≡ j + m) × Lowest (c ∷ l) m
+free-more : (c : Call) (l : List Call) (i j : ℕ) (t : Bool) → liveOf (c .phase) ≡ t → cond (not t) (Spot.At j) (placeFrom l (j + 1)) ≡ Spot.At i
+    → (placeFrom l (j + 1) ≡ Spot.At i → (m : ℕ) × (i ≡ j + 1 + m) × Lowest l m) → (m : ℕ) × (i ≡ j + m) × Lowest (c ∷ l) m
 free-more c l i j true et e k =
     let r : (m : ℕ) × (i ≡ j + 1 + m) × Lowest l m = k e in (
       suc (r .0),
@@ -220,11 +220,11 @@ free-more c l i j true et e k =
 free-more c l i j false et e k =
     (0, (let same : j ≡ i = same-found j i e in omega (arith, same)), record { within = omega arith; free = is-free (c .phase) et; lower = λ m w. absurd (not-suc-le-zero w) })
 
-free-found : (l : List Call) (i j : ℕ) → placeFrom l j ≡ Found.At i → (m : ℕ) × (i ≡ j + m) × Lowest l m
+free-found : (l : List Call) (i j : ℕ) → placeFrom l j ≡ Spot.At i → (m : ℕ) × (i ≡ j + m) × Lowest l m
 free-found [] i j e = absurd (true≢false (sym (ap isAt e)))
 free-found (c ∷ l) i j e = free-more c l i j (liveOf (c .phase)) refl e (λ f. free-found l i (j + 1) f)
 
-pub found-lowest : (l : List Call) (i : ℕ) → placeFrom l 0 ≡ Found.At i → Lowest l i
+pub found-lowest : (l : List Call) (i : ℕ) → placeFrom l 0 ≡ Spot.At i → Lowest l i
 found-lowest l i e =
     let r : (m : ℕ) × (i ≡ 0 + m) × Lowest l m = free-found l i 0 e in
     let same : r .0 ≡ i = (let w : i ≡ 0 + r .0 = r .1 in omega (arith, w)) in subst (Lowest l) same (r .2)

@@ -16,9 +16,9 @@ use Rattle.call.specs.Step.{stepOf}
 use Rattle.table.specs.declared.choice.Choice.{Choice}
 use Rattle.table.specs.declared.verdict.Verdict.{Verdict}
 use Rattle.table.specs.declared.choice.Wanted.{Wanted}
-use Rattle.table.specs.declared.choice.Found.{Found}
-use Rattle.table.specs.Choice.{wantedOf, ownOr, isNew, referenceOf, opensOf, rangedOf, chooseOf}
-use Rattle.table.specs.Settle.{subjectOf, keptOf, outcomeOf, refusalOf, settledOf}
+use Rattle.table.specs.declared.choice.Spot.{Spot}
+use Rattle.table.specs.Choice.{wantedOf, ownOr, isNew, meantReferenceOf, opensOf, setupRangedOf, chooseOf}
+use Rattle.table.specs.Settle.{subjectOf, recordKeptOf, heardOutcomeOf, tableRefusalOf, settledOf}
 use Rattle.table.specs.Table.{tableSound, findFrom, placeFrom}
 use Rattle.table.specs.Chosen.{chosenOf}
 use Rattle.table.specs.Step.{outcomeAt, tableAt, stepOutcome, stepTable}
@@ -42,12 +42,12 @@ data Decided (t : List Call) (n : ℕ) (e : Event) : Choice → Type 0 where
   hears : (i : ℕ) → (TableRefuses t n e → ⊥) → Decided t n e (Choice.At i)
 
 module _ (t : List Call) (n : ℕ) (s : tableSound t ≡ true) where
-  enters : (i reference : ℕ) (rights : Rights) → (referenceFitsOf reference && rightsFitOf rights) ≡ true → findFrom t 0 reference ≡ Found.Nothing → placeFrom t 0 ≡ Found.At i → SetupBarred t reference rights → ⊥
+  enters : (i reference : ℕ) (rights : Rights) → (referenceFitsOf reference && rightsFitOf rights) ≡ true → findFrom t 0 reference ≡ Spot.Nothing → placeFrom t 0 ≡ Spot.At i → SetupBarred t reference rights → ⊥
   enters i reference rights ef eh ep (outOfRange h) = is-ranged reference rights ef h
   enters i reference rights ef eh ep (alreadyHeld h) = not-found t reference eh h
   enters i reference rights ef eh ep (noPlace h) = not-full t 0 i ep h
 
-  opens-here : (i : ℕ) (e : Event) → opensOf e ≡ true → rangedOf e ≡ true → findFrom t 0 (referenceOf n e) ≡ Found.Nothing → placeFrom t 0 ≡ Found.At i → TableRefuses t n e → ⊥
+  opens-here : (i : ℕ) (e : Event) → opensOf e ≡ true → setupRangedOf e ≡ true → findFrom t 0 (meantReferenceOf n e) ≡ Spot.Nothing → placeFrom t 0 ≡ Spot.At i → TableRefuses t n e → ⊥
   opens-here i e eo ef eh ep (faulty _ h) = not-faulty t s h
   opens-here i e eo ef eh ep (setup reference rights q h) = enters i reference rights ef eh ep h
   opens-here i e eo ef eh ep (other _ o h) = never eo o
@@ -59,14 +59,14 @@ module _ (t : List Call) (n : ℕ) (s : tableSound t ≡ true) where
 
 module _ (t : List Call) (n : ℕ) (e : Event) where
   -- an event that is no SETUP is looked for under the reference beside it
-  found-own : (h : Found) → opensOf e ≡ false → findFrom t 0 (referenceOf n e) ≡ h → findFrom t 0 n ≡ h
+  found-own : (h : Spot) → opensOf e ≡ false → findFrom t 0 (meantReferenceOf n e) ≡ h → findFrom t 0 n ≡ h
   found-own h eo eh = ap (findFrom t 0) (sym (own-reference n (wantedOf e) eo)) ∙ eh
 
-  decided-sound : tableSound t ≡ true → (k : Choice) → Chosen t (referenceOf n e) e k → Decided t n e k
+  decided-sound : tableSound t ≡ true → (k : Choice) → Chosen t (meantReferenceOf n e) e k → Decided t n e k
   decided-sound s k (out eo ef) =
-      refuses _ (of-setup (λ e. rangedOf e ≡ false → TableRefuses t n e) (λ reference rights q f. setup reference rights q (outOfRange (not-ranged reference rights f))) e eo ef)
+      refuses _ (of-setup (λ e. setupRangedOf e ≡ false → TableRefuses t n e) (λ reference rights q f. setup reference rights q (outOfRange (not-ranged reference rights f))) e eo ef)
   decided-sound s k (held eo ef i eh) =
-      refuses _ (of-setup (λ e. Held t (referenceOf n e) → TableRefuses t n e) (λ reference rights q h. setup reference rights q (alreadyHeld h)) e eo (found-held t _ i eh))
+      refuses _ (of-setup (λ e. Held t (meantReferenceOf n e) → TableRefuses t n e) (λ reference rights q h. setup reference rights q (alreadyHeld h)) e eo (found-held t _ i eh))
   decided-sound s k (full eo ef eh ep) =
       refuses _ (of-setup (TableRefuses t n) (λ reference rights q. setup reference rights q (noPlace (no-place t 0 ep))) e eo)
   decided-sound s k (new eo ef eh i ep) = hears i (opens-here t n s i e eo ef eh ep)
@@ -79,13 +79,13 @@ module _ (t : List Call) (n : ℕ) (e : Event) where
   decided-if false s = rw s (refuses _ (faulty e (is-faulty t s)))
 
 -- ---- the call's own reply
-kept-taken : (c : Call) (r : Reply) → numberOf (r .answer) ≡ 0 → keptOf c r ≡ r .call
-unfolding keptOf
+kept-taken : (c : Call) (r : Reply) → numberOf (r .answer) ≡ 0 → recordKeptOf c r ≡ r .call
+unfolding recordKeptOf
 kept-taken c r z = ap (λ (b : Bool). cond b (r .call) c) (changes-at (r .answer) 0 z)
 
 module _ (t : List Call) (n : ℕ) (e : Event) (l : List ℕ) where
   own-at : (i : ℕ) → chosenOf t n e ≡ Choice.At i → Own t (tableAt t (Choice.At i) e l) n e l (outcomeAt t (Choice.At i) e l)
-  unfolding settledOf subjectOf outcomeOf
+  unfolding settledOf subjectOf heardOutcomeOf
   own-at i k =
       record {
         place = i;
@@ -101,7 +101,7 @@ module _ (t : List Call) (n : ℕ) (e : Event) (l : List ℕ) where
       }
 
   silent-at : (v : Verdict) → Silent (outcomeAt t (Choice.Refused v) e l)
-  unfolding refusalOf
+  unfolding tableRefusalOf
   silent-at v = record { note = refl; calling = refl; called = refl }
 
   replies-at : (k : Choice) → chosenOf t n e ≡ k → Decided t n e k →

@@ -26,12 +26,12 @@ use Rattle.call.specs.Sound.{freshCall, soundOf}
 use Rattle.call.specs.Step.{stepOf}
 use Rattle.table.specs.Table.{tableSound, findFrom, placeFrom}
 use Rattle.table.specs.Chosen.{chosenOf}
-use Rattle.table.specs.Choice.{referenceOf, opensOf, rangedOf, newPlaceOf, oldPlaceOf, chooseOf}
+use Rattle.table.specs.Choice.{meantReferenceOf, opensOf, setupRangedOf, newPlaceOf, oldPlaceOf, chooseOf}
 use Rattle.table.specs.Verdict.{verdictNumber}
-use Rattle.table.specs.Settle.{subjectOf, changesOf, keptOf, outcomeOf, refusalOf, settledOf}
+use Rattle.table.specs.Settle.{subjectOf, changesOf, recordKeptOf, heardOutcomeOf, tableRefusalOf, settledOf}
 use Rattle.table.specs.Step.{outcomeAt, tableAt, stepOutcome, stepTable}
 use Rattle.table_promises.specs.Table.{heldCall, otherRows, tableRows, numberAt, Table, Refused, OneChanged, OnePlace, LiveAt, Lowest, Names, Named, OneSpent, Fourteen}
-use Rattle.table.specs.declared.choice.Found.{Found}
+use Rattle.table.specs.declared.choice.Spot.{Spot}
 use Rattle.table.specs.declared.choice.Choice.{Choice}
 use Rattle.table.specs.declared.verdict.Verdict.{Verdict}
 use Rattle.call_promises.specs.Ranges.{ReferenceInRange, RightsInRange}
@@ -42,11 +42,11 @@ use Rattle.table_promises.proofs.Counted.{found-held, not-found, no-pla
 use Rattle.table_promises.proofs.Within.{not-refused, same-chosen}
 
 -- ---- the choice, from what the table's tests say
-abbrev choiceOf : (whole opening fits : Bool) (held free : Found) → Choice
+abbrev choiceOf : (whole opening fits : Bool) (held free : Spot) → Choice
 choiceOf whole opening fits held free =
     cond whole (cond opening (cond fits (newPlaceOf held free) (Choice.Refused (Verdict.Heard Answer.OutOfRange))) (oldPlaceOf held)) (Choice.Refused (Verdict.Heard Answer.Unsound))
 
-number-is : (t : List Call) (n : ℕ) (e : Event) (l : List ℕ) (w o f : Bool) (h p : Found) → tableSound t ≡ w → opensOf e ≡ o → rangedOf e ≡ f → findFrom t 0 (referenceOf n e) ≡ h → placeFrom t 0 ≡ p
+number-is : (t : List Call) (n : ℕ) (e : Event) (l : List ℕ) (w o f : Bool) (h p : Spot) → tableSound t ≡ w → opensOf e ≡ o → setupRangedOf e ≡ f → findFrom t 0 (meantReferenceOf n e) ≡ h → placeFrom t 0 ≡ p
     → numberAt t n e l ≡ verdictNumber (outcomeAt t (choiceOf w o f h p) e l .verdict)
 unfolding stepOutcome chosenOf chooseOf
 number-is t n e l w o f h p ew eo ef eh ep = λ j. verdictNumber (outcomeAt t (choiceOf (ew j) (eo j) (ef j) (eh j) (ep j)) e l .verdict)
@@ -58,7 +58,7 @@ setup-taken false r s e h = absurd (true≢false (sym h))
 
 setup-zero : (t : List Call) (i reference : ℕ) (rights : Rights) (q : Requests) (l : List ℕ) → (referenceFitsOf reference && rightsFitOf rights) ≡ true
     → verdictNumber (outcomeAt t (Choice.At i) (Event.Setup reference rights q) l .verdict) ≡ 0
-unfolding settledOf outcomeOf subjectOf setupOf heardOf barOf soundOf freshCall proceedsOf
+unfolding settledOf heardOutcomeOf subjectOf setupOf heardOf barOf soundOf freshCall proceedsOf
 setup-zero t i reference rights q l e =
     setup-taken (referenceFitsOf reference && rightsFitOf rights) (proceedsOf reference rights q (seenOf l (rights .limit))) (refusedOf freshCall (cond (referenceFitsOf reference && rightsFitOf rights) Answer.Taken Answer.OutOfRange) Note.Clear) refl e
 
@@ -69,32 +69,32 @@ pub is-ranged : (reference : ℕ) (rights : Rights) → (referenceFitsOf referen
 is-ranged reference rights e h =
     let p : (referenceFitsOf reference ≡ true) × (rightsFitOf rights ≡ true) = both (referenceFitsOf reference) (rightsFitOf rights) e in h (reference-range reference .so (p .0), rights-range rights .so (p .1))
 
-setup-first : (t : List Call) (n reference : ℕ) (rights : Rights) (q : Requests) (l : List ℕ) (w f : Bool) (h p : Found) → tableSound t ≡ w → (referenceFitsOf reference && rightsFitOf rights) ≡ f → findFrom t 0 reference ≡ h → placeFrom t 0 ≡ p
+setup-first : (t : List Call) (n reference : ℕ) (rights : Rights) (q : Requests) (l : List ℕ) (w f : Bool) (h p : Spot) → tableSound t ≡ w → (referenceFitsOf reference && rightsFitOf rights) ≡ f → findFrom t 0 reference ≡ h → placeFrom t 0 ≡ p
     → First (tableRows t n (Event.Setup reference rights q) l) (verdictNumber (outcomeAt t (choiceOf w true f h p) (Event.Setup reference rights q) l .verdict))
-unfolding refusalOf
+unfolding tableRefusalOf
 setup-first t n reference rights q l false f h p ew ef eh ep = inl (is-faulty t ew, refl)
 setup-first t n reference rights q l true false h p ew ef eh ep = inr (not-faulty t ew, inl (not-ranged reference rights ef, refl))
-setup-first t n reference rights q l true true (Found.At i) p ew ef eh ep = inr (not-faulty t ew, inr (is-ranged reference rights ef, inl (found-held t reference i eh, refl)))
-setup-first t n reference rights q l true true Found.Nothing Found.Nothing ew ef eh ep =
+setup-first t n reference rights q l true true (Spot.At i) p ew ef eh ep = inr (not-faulty t ew, inr (is-ranged reference rights ef, inl (found-held t reference i eh, refl)))
+setup-first t n reference rights q l true true Spot.Nothing Spot.Nothing ew ef eh ep =
     inr (not-faulty t ew, inr (is-ranged reference rights ef, inr (not-found t reference eh, inl (no-place t 0 ep, refl))))
-setup-first t n reference rights q l true true Found.Nothing (Found.At i) ew ef eh ep =
+setup-first t n reference rights q l true true Spot.Nothing (Spot.At i) ew ef eh ep =
     inr (not-faulty t ew, inr (is-ranged reference rights ef, inr (not-found t reference eh, inr (not-full t 0 i ep, setup-zero t i reference rights q l ef))))
 
 -- ---- other events
 call-number : (t : List Call) (n i : ℕ) (e : Event) (l : List ℕ) → opensOf e ≡ false → getD t i freshCall ≡ heldCall t n → verdictNumber (outcomeAt t (Choice.At i) e l .verdict) ≡ numberOf (stepOf (heldCall t n) e l .answer)
-unfolding settledOf outcomeOf subjectOf
+unfolding settledOf heardOutcomeOf subjectOf
 call-number t n i e l eo ec = λ j. numberOf (stepOf (cond (eo j) freshCall (ec j)) e l .answer)
 
-other-first : (t : List Call) (n : ℕ) (e : Event) (l : List ℕ) (w f : Bool) (h p : Found) → opensOf e ≡ false → tableSound t ≡ w → findFrom t 0 n ≡ h → First (otherRows t n e l) (verdictNumber (outcomeAt t (choiceOf w false f h p) e l .verdict))
-unfolding refusalOf
+other-first : (t : List Call) (n : ℕ) (e : Event) (l : List ℕ) (w f : Bool) (h p : Spot) → opensOf e ≡ false → tableSound t ≡ w → findFrom t 0 n ≡ h → First (otherRows t n e l) (verdictNumber (outcomeAt t (choiceOf w false f h p) e l .verdict))
+unfolding tableRefusalOf
 other-first t n e l false f h p eo ew eh = inl (is-faulty t ew, refl)
-other-first t n e l true f Found.Nothing p eo ew eh = inr (not-faulty t ew, inl (not-found t n eh, refl))
-other-first t n e l true f (Found.At i) p eo ew eh = inr (not-faulty t ew, inr ((λ no. no (found-held t n i eh)), inl (tt, call-number t n i e l eo (found-call t i n eh))))
+other-first t n e l true f Spot.Nothing p eo ew eh = inr (not-faulty t ew, inl (not-found t n eh, refl))
+other-first t n e l true f (Spot.At i) p eo ew eh = inr (not-faulty t ew, inr ((λ no. no (found-held t n i eh)), inl (tt, call-number t n i e l eo (found-call t i n eh))))
 
-other-number : (t : List Call) (n : ℕ) (e : Event) (l : List ℕ) → opensOf e ≡ false → referenceOf n e ≡ n → First (otherRows t n e l) (numberAt t n e l)
+other-number : (t : List Call) (n : ℕ) (e : Event) (l : List ℕ) → opensOf e ≡ false → meantReferenceOf n e ≡ n → First (otherRows t n e l) (numberAt t n e l)
 other-number t n e l eo er =
-    subst (First (otherRows t n e l)) (sym (number-is t n e l (tableSound t) false (rangedOf e) (findFrom t 0 n) (placeFrom t 0) refl eo refl (ap (findFrom t 0) er) refl))
-    (other-first t n e l (tableSound t) (rangedOf e) (findFrom t 0 n) (placeFrom t 0) eo refl refl)
+    subst (First (otherRows t n e l)) (sym (number-is t n e l (tableSound t) false (setupRangedOf e) (findFrom t 0 n) (placeFrom t 0) refl eo refl (ap (findFrom t 0) er) refl))
+    (other-first t n e l (tableSound t) (setupRangedOf e) (findFrom t 0 n) (placeFrom t 0) eo refl refl)
 
 table-first : (t : List Call) (n : ℕ) (e : Event) (l : List ℕ) → First (tableRows t n e l) (numberAt t n e l)
 table-first t n (Event.Setup reference rights q) l =
@@ -140,7 +140,7 @@ refusal-keeps : (a : Answer) → (numberOf a ≡ 0 → ⊥) → (numberOf a ≡ 
 refusal-keeps a h k = changes-when a ∙ (λ j. ne-eqb (numberOf a) 0 h j || ne-eqb (numberOf a) 14 k j)
 
 settled-keeps : (c : Call) (e : Event) (l : List ℕ) → (verdictNumber (settledOf c e l .outcome .verdict) ≡ 0 → ⊥) → (verdictNumber (settledOf c e l .outcome .verdict) ≡ 14 → ⊥) → settledOf c e l .call ≡ c
-unfolding settledOf outcomeOf keptOf
+unfolding settledOf heardOutcomeOf recordKeptOf
 settled-keeps c e l h k = ap (λ (t : Bool). cond t (stepOf (subjectOf c e) e l .call) c) (refusal-keeps (stepOf (subjectOf c e) e l .answer) h k)
 
 refused-at : (t : List Call) (c : Choice) (e : Event) (l : List ℕ) → (verdictNumber (outcomeAt t c e l .verdict) ≡ 0 → ⊥) → (verdictNumber (outcomeAt t c e l .verdict) ≡ 14 → ⊥) → tableAt t c e l ≡ t
@@ -162,21 +162,21 @@ unfolding stepTable
 one-place t n e l = one-at t (chosenOf t n e) e l
 
 -- ---- the place that is named
-new-lowest : (t : List Call) (h p : Found) (i : ℕ) → placeFrom t 0 ≡ p → newPlaceOf h p ≡ Choice.At i → Lowest t i
-new-lowest t (Found.At m) p i ep e = not-refused i _ (sym e)
-new-lowest t Found.Nothing (Found.At m) i ep e = found-lowest t i (ep ∙ ap Found.At (same-chosen m i e))
-new-lowest t Found.Nothing Found.Nothing i ep e = not-refused i _ (sym e)
+new-lowest : (t : List Call) (h p : Spot) (i : ℕ) → placeFrom t 0 ≡ p → newPlaceOf h p ≡ Choice.At i → Lowest t i
+new-lowest t (Spot.At m) p i ep e = not-refused i _ (sym e)
+new-lowest t Spot.Nothing (Spot.At m) i ep e = found-lowest t i (ep ∙ ap Spot.At (same-chosen m i e))
+new-lowest t Spot.Nothing Spot.Nothing i ep e = not-refused i _ (sym e)
 
-old-live : (t : List Call) (n : ℕ) (h : Found) (i : ℕ) → findFrom t 0 n ≡ h → oldPlaceOf h ≡ Choice.At i → LiveAt t i n
-old-live t n (Found.At m) i eh e = found-live t i n (eh ∙ ap Found.At (same-chosen m i e))
-old-live t n Found.Nothing i eh e = not-refused i _ (sym e)
+old-live : (t : List Call) (n : ℕ) (h : Spot) (i : ℕ) → findFrom t 0 n ≡ h → oldPlaceOf h ≡ Choice.At i → LiveAt t i n
+old-live t n (Spot.At m) i eh e = found-live t i n (eh ∙ ap Spot.At (same-chosen m i e))
+old-live t n Spot.Nothing i eh e = not-refused i _ (sym e)
 
-new-names : (t : List Call) (w f : Bool) (h : Found) (i : ℕ) → choiceOf w true f h (placeFrom t 0) ≡ Choice.At i → Lowest t i
+new-names : (t : List Call) (w f : Bool) (h : Spot) (i : ℕ) → choiceOf w true f h (placeFrom t 0) ≡ Choice.At i → Lowest t i
 new-names t false f h i e = not-refused i _ (sym e)
 new-names t true false h i e = not-refused i _ (sym e)
 new-names t true true h i e = new-lowest t h (placeFrom t 0) i refl e
 
-old-names : (t : List Call) (n : ℕ) (w f : Bool) (p : Found) (i : ℕ) → choiceOf w false f (findFrom t 0 n) p ≡ Choice.At i → LiveAt t i n
+old-names : (t : List Call) (n : ℕ) (w f : Bool) (p : Spot) (i : ℕ) → choiceOf w false f (findFrom t 0 n) p ≡ Choice.At i → LiveAt t i n
 old-names t n false f p i e = not-refused i _ (sym e)
 old-names t n true f p i e = old-live t n (findFrom t 0 n) i refl e
 
@@ -211,41 +211,41 @@ not-14 n e h = never (eq-eqb n 14 h) e
 
 -- an event that is no SETUP goes to the record as it stands
 own-number : (c : Call) (e : Event) (l : List ℕ) → opensOf e ≡ false → verdictNumber (settledOf c e l .outcome .verdict) ≡ numberOf (stepOf c e l .answer)
-unfolding settledOf outcomeOf subjectOf
+unfolding settledOf heardOutcomeOf subjectOf
 own-number c e l eo = λ j. numberOf (stepOf (cond (eo j) freshCall c) e l .answer)
 
 own-kept : (c : Call) (e : Event) (l : List ℕ) → opensOf e ≡ false → numberOf (stepOf c e l .answer) ≡ 14 → settledOf c e l .call ≡ stepOf c e l .call
-unfolding settledOf subjectOf keptOf
+unfolding settledOf subjectOf recordKeptOf
 own-kept c e l eo h =
     (λ j. cond (changesOf (stepOf (cond (eo j) freshCall c) e l .answer)) (stepOf (cond (eo j) freshCall c) e l .call) c)
     ∙ ap (λ (t : Bool). cond t (stepOf c e l .call) c) (changes-at (stepOf c e l .answer) 14 h)
 
-table-is : (t : List Call) (n : ℕ) (e : Event) (l : List ℕ) (w o f : Bool) (h p : Found) → tableSound t ≡ w → opensOf e ≡ o → rangedOf e ≡ f → findFrom t 0 (referenceOf n e) ≡ h → placeFrom t 0 ≡ p → stepTable t n e l ≡ tableAt t (choiceOf w o f h p) e l
+table-is : (t : List Call) (n : ℕ) (e : Event) (l : List ℕ) (w o f : Bool) (h p : Spot) → tableSound t ≡ w → opensOf e ≡ o → setupRangedOf e ≡ f → findFrom t 0 (meantReferenceOf n e) ≡ h → placeFrom t 0 ≡ p → stepTable t n e l ≡ tableAt t (choiceOf w o f h p) e l
 unfolding stepTable chosenOf chooseOf
 table-is t n e l w o f h p ew eo ef eh ep = λ j. tableAt t (choiceOf (ew j) (eo j) (ef j) (eh j) (ep j)) e l
 
-setup-not-14 : {X : Type 0} (t : List Call) (reference : ℕ) (rights : Rights) (q : Requests) (l : List ℕ) (w f : Bool) (h p : Found) → (referenceFitsOf reference && rightsFitOf rights) ≡ f
+setup-not-14 : {X : Type 0} (t : List Call) (reference : ℕ) (rights : Rights) (q : Requests) (l : List ℕ) (w f : Bool) (h p : Spot) → (referenceFitsOf reference && rightsFitOf rights) ≡ f
     → verdictNumber (outcomeAt t (choiceOf w true f h p) (Event.Setup reference rights q) l .verdict) ≡ 14 → X
-unfolding refusalOf
+unfolding tableRefusalOf
 setup-not-14 t reference rights q l false f h p ef e = not-14 25 refl e
 setup-not-14 t reference rights q l true false h p ef e = not-14 24 refl e
-setup-not-14 t reference rights q l true true (Found.At i) p ef e = not-14 22 refl e
-setup-not-14 t reference rights q l true true Found.Nothing Found.Nothing ef e = not-14 21 refl e
-setup-not-14 t reference rights q l true true Found.Nothing (Found.At i) ef e = not-14 0 refl (sym (setup-zero t i reference rights q l ef) ∙ e)
+setup-not-14 t reference rights q l true true (Spot.At i) p ef e = not-14 22 refl e
+setup-not-14 t reference rights q l true true Spot.Nothing Spot.Nothing ef e = not-14 21 refl e
+setup-not-14 t reference rights q l true true Spot.Nothing (Spot.At i) ef e = not-14 0 refl (sym (setup-zero t i reference rights q l ef) ∙ e)
 
-other-spent : (t : List Call) (n : ℕ) (e : Event) (l : List ℕ) (w f : Bool) (h p : Found) (s : List Call) → opensOf e ≡ false → findFrom t 0 n ≡ h → verdictNumber (outcomeAt t (choiceOf w false f h p) e l .verdict) ≡ 14 → s ≡ tableAt t (choiceOf w false f h p) e l → OneSpent t s n e l
-unfolding refusalOf
+other-spent : (t : List Call) (n : ℕ) (e : Event) (l : List ℕ) (w f : Bool) (h p : Spot) (s : List Call) → opensOf e ≡ false → findFrom t 0 n ≡ h → verdictNumber (outcomeAt t (choiceOf w false f h p) e l .verdict) ≡ 14 → s ≡ tableAt t (choiceOf w false f h p) e l → OneSpent t s n e l
+unfolding tableRefusalOf
 other-spent t n e l false f h p s eo eh k es = not-14 25 refl k
-other-spent t n e l true f Found.Nothing p s eo eh k es = not-14 23 refl k
-other-spent t n e l true f (Found.At i) p s eo eh k es =
+other-spent t n e l true f Spot.Nothing p s eo eh k es = not-14 23 refl k
+other-spent t n e l true f (Spot.At i) p s eo eh k es =
     let spent : numberOf (stepOf (getD t i freshCall) e l .answer) ≡ 14 = sym (own-number (getD t i freshCall) e l eo) ∙ k in
     record { place = i; live = found-live t i n eh; answer = spent; table = es ∙ ap (set t i) (own-kept (getD t i freshCall) e l eo spent) }
 
-other-fourteen : (t : List Call) (n : ℕ) (e : Event) (l : List ℕ) → opensOf e ≡ false → referenceOf n e ≡ n → numberAt t n e l ≡ 14 → OneSpent t (stepTable t n e l) n e l
+other-fourteen : (t : List Call) (n : ℕ) (e : Event) (l : List ℕ) → opensOf e ≡ false → meantReferenceOf n e ≡ n → numberAt t n e l ≡ 14 → OneSpent t (stepTable t n e l) n e l
 other-fourteen t n e l eo er k =
-    other-spent t n e l (tableSound t) (rangedOf e) (findFrom t 0 n) (placeFrom t 0) (stepTable t n e l) eo refl
-    (sym (number-is t n e l (tableSound t) false (rangedOf e) (findFrom t 0 n) (placeFrom t 0) refl eo refl (ap (findFrom t 0) er) refl) ∙ k)
-    (table-is t n e l (tableSound t) false (rangedOf e) (findFrom t 0 n) (placeFrom t 0) refl eo refl (ap (findFrom t 0) er) refl)
+    other-spent t n e l (tableSound t) (setupRangedOf e) (findFrom t 0 n) (placeFrom t 0) (stepTable t n e l) eo refl
+    (sym (number-is t n e l (tableSound t) false (setupRangedOf e) (findFrom t 0 n) (placeFrom t 0) refl eo refl (ap (findFrom t 0) er) refl) ∙ k)
+    (table-is t n e l (tableSound t) false (setupRangedOf e) (findFrom t 0 n) (placeFrom t 0) refl eo refl (ap (findFrom t 0) er) refl)
 
 pub fourteen : Fourteen
 fourteen t n (Event.Setup reference rights q) l k =

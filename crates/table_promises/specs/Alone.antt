@@ -15,7 +15,7 @@ use Rattle.call.specs.declared.Call.{Call}
 use Rattle.event.specs.declared.Event.{Event}
 use Rattle.call.specs.Sound.{freshCall}
 use Rattle.table.specs.declared.settle.Outcome.{Outcome}
-use Rattle.table.specs.Choice.{referenceOf, opensOf}
+use Rattle.table.specs.Choice.{meantReferenceOf, opensOf}
 use Rattle.table.specs.Verdict.{verdictNumber}
 use Rattle.table.specs.Step.{stepOutcome, stepTable}
 
@@ -31,16 +31,16 @@ pub record Told : Type 0 where
   pub outcome : Outcome
 
 -- a run: each event meets the table that the one before it left
-abbrev pub runOf : List Call → List Offered → List Told
-runOf t [] = []
-runOf t (o ∷ os) =
+abbrev pub tableRunOf : List Call → List Offered → List Told
+tableRunOf t [] = []
+tableRunOf t (o ∷ os) =
     record { offered = o; outcome = stepOutcome t (o .reference) (o .event) (o .element) }
-    ∷ runOf (stepTable t (o .reference) (o .event) (o .element)) os
+    ∷ tableRunOf (stepTable t (o .reference) (o .event) (o .element)) os
 
 -- the part of a run that is about the reference n
 abbrev pub ownOf : ℕ → List Told → List Told
 ownOf n [] = []
-ownOf n (u ∷ us) = cond (eqb (referenceOf (u .offered .reference) (u .offered .event)) n) (u ∷ ownOf n us) (ownOf n us)
+ownOf n (u ∷ us) = cond (eqb (meantReferenceOf (u .offered .reference) (u .offered .event)) n) (u ∷ ownOf n us) (ownOf n us)
 
 -- its events, each with its element
 abbrev pub eventsOf : List Told → List (Event × List ℕ)
@@ -66,9 +66,9 @@ pub record AllFresh (t : List Call) : Type 0 where
 abbrev pub Alone : Type 0
 Alone =
     (n : ℕ) (t t′ : List Call) (os os′ : List Offered) → AllFresh t → AllFresh t′ →
-    eventsOf (ownOf n (runOf t os)) ≡ eventsOf (ownOf n (runOf t′ os′)) →
-    fullOf (ownOf n (runOf t os)) ≡ fullOf (ownOf n (runOf t′ os′)) →
-    outcomesOf (ownOf n (runOf t os)) ≡ outcomesOf (ownOf n (runOf t′ os′))
+    eventsOf (ownOf n (tableRunOf t os)) ≡ eventsOf (ownOf n (tableRunOf t′ os′)) →
+    fullOf (ownOf n (tableRunOf t os)) ≡ fullOf (ownOf n (tableRunOf t′ os′)) →
+    outcomesOf (ownOf n (tableRunOf t os)) ≡ outcomesOf (ownOf n (tableRunOf t′ os′))
 
 -- MET. Two runs that agree so: at a table of one place and of two, with other references' events in between. The first SETUP of reference 5
 -- meets 21 in both.
@@ -96,13 +96,13 @@ ticks n = offers n Event.Tick
 abbrev pub oneRun : List Told
 oneRun =
     ownOf 5
-    (runOf (freshCall ∷ [])
+    (tableRunOf (freshCall ∷ [])
     (setup 9 ∷ setup 5 ∷ ends 9 ∷ setup 5 ∷ ticks 9 ∷ alerting 5 ∷ setup 5 ∷ says 5 ∷ ends 5 ∷ setup 9 ∷ ticks 5 ∷ []))
 
 abbrev pub twoRun : List Told
 twoRun =
     ownOf 5
-    (runOf (freshCall ∷ freshCall ∷ [])
+    (tableRunOf (freshCall ∷ freshCall ∷ [])
     (setup 7 ∷ setup 8 ∷ alerting 7 ∷ setup 5 ∷ ends 8 ∷ setup 5 ∷ alerting 5 ∷ ends 7 ∷ setup 5 ∷ says 5 ∷ ends 5 ∷ ticks 5 ∷ []))
 
 abbrev pub numbersOf : List Told → List ℕ
@@ -119,6 +119,6 @@ pub record Met : Type 0 where
 -- NEEDED. The same SETUP at a table of no place and of one: which SETUPs met 21 is not in the events.
 pub record Needed : Type 0 where
   pub none : AllFresh []
-  pub events : eventsOf (ownOf 5 (runOf [] (setup 5 ∷ []))) ≡ eventsOf (ownOf 5 (runOf (freshCall ∷ []) (setup 5 ∷ [])))
-  pub nowhere : numbersOf (ownOf 5 (runOf [] (setup 5 ∷ []))) ≡ 21 ∷ []
-  pub somewhere : numbersOf (ownOf 5 (runOf (freshCall ∷ []) (setup 5 ∷ []))) ≡ 0 ∷ []
+  pub events : eventsOf (ownOf 5 (tableRunOf [] (setup 5 ∷ []))) ≡ eventsOf (ownOf 5 (tableRunOf (freshCall ∷ []) (setup 5 ∷ [])))
+  pub nowhere : numbersOf (ownOf 5 (tableRunOf [] (setup 5 ∷ []))) ≡ 21 ∷ []
+  pub somewhere : numbersOf (ownOf 5 (tableRunOf (freshCall ∷ []) (setup 5 ∷ []))) ≡ 0 ∷ []

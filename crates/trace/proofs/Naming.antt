@@ -5,19 +5,19 @@ use mathlib.Core.Bool.{true, false}
 use mathlib.Core.Path.{_≡_}
 use borrow.Author.Tests.{lt-ltb, le-ltb}
 use lib.ListN.{length}
-use Rattle.trace.specs.declared.kind.Kind.{Kind}
-use Rattle.trace.specs.declared.kind.Named.{Named}
+use Rattle.trace.specs.declared.kind.RecordKind.{RecordKind}
+use Rattle.trace.specs.declared.kind.NamedKind.{NamedKind}
 use Rattle.trace.specs.declared.Fault.{Fault}
 use Rattle.trace.specs.declared.Record.{Record}
 use Rattle.trace.specs.Kind.{sizeOf}
 use Rattle.trace.specs.Reading.{rangedOf, entryOf, namedOf}
 
-module _ (k : Kind) (t : List ℕ) where
-  pub named-short : length t < sizeOf k → Record.Refused Fault.Short ≡ namedOf (Named.Known k) t
+module _ (k : RecordKind) (t : List ℕ) where
+  pub named-short : length t < sizeOf k → Record.Refused Fault.Short ≡ namedOf (NamedKind.Known k) t
   named-short h = simp (lt-ltb (length t) (sizeOf k) h)
 
-  pub named-range : sizeOf k ≤ length t → rangedOf k t ≡ false → Record.Refused Fault.Range ≡ namedOf (Named.Known k) t
+  pub named-range : sizeOf k ≤ length t → rangedOf k t ≡ false → Record.Refused Fault.Range ≡ namedOf (NamedKind.Known k) t
   named-range h e = simp (le-ltb (length t) (sizeOf k) h, e)
 
-  pub named-taken : sizeOf k ≤ length t → rangedOf k t ≡ true → Record.Taken (entryOf k t) ≡ namedOf (Named.Known k) t
+  pub named-taken : sizeOf k ≤ length t → rangedOf k t ≡ true → Record.Taken (entryOf k t) ≡ namedOf (NamedKind.Known k) t
   named-taken h e = simp (le-ltb (length t) (sizeOf k) h, e)

@@ -1,15 +1,15 @@
 -- How long a record is at the least.
 use Prim.Native.Nat.{_≤_}
 use native.Mathlib.Omega.{arith}
-use Rattle.trace.specs.declared.kind.Kind.{Kind}
+use Rattle.trace.specs.declared.kind.RecordKind.{RecordKind}
 use Rattle.trace.specs.Kind.{sizeOf}
 
-pub least : (k : Kind) → 3 ≤ sizeOf k
-least Kind.Setup = omega arith
-least Kind.Alerting = omega arith
-least Kind.Connect = omega arith
-least Kind.Information = omega arith
-least Kind.Facility = omega arith
-least Kind.Disconnect = omega arith
-least Kind.ReleaseComplete = omega arith
-least Kind.Tick = omega arith
+pub least : (k : RecordKind) → 3 ≤ sizeOf k
+least RecordKind.Setup = omega arith
+least RecordKind.Alerting = omega arith
+least RecordKind.Connect = omega arith
+least RecordKind.Information = omega arith
+least RecordKind.Facility = omega arith
+least RecordKind.Disconnect = omega arith
+least RecordKind.ReleaseComplete = omega arith
+least RecordKind.Tick = omega arith

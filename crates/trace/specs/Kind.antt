@@ -3,40 +3,40 @@
 use Prim.Native.Nat.{ℕ, _+_}
 use mathlib.Core.Bool.{cond}
 use lib.Dec.{eqb}
-use Rattle.trace.specs.declared.kind.Kind.{Kind}
-use Rattle.trace.specs.declared.kind.Named.{Named}
+use Rattle.trace.specs.declared.kind.RecordKind.{RecordKind}
+use Rattle.trace.specs.declared.kind.NamedKind.{NamedKind}
 
-abbrev pub kindOctet : Kind → ℕ
-kindOctet Kind.Setup = 1
-kindOctet Kind.Alerting = 2
-kindOctet Kind.Connect = 3
-kindOctet Kind.Information = 4
-kindOctet Kind.Facility = 5
-kindOctet Kind.Disconnect = 6
-kindOctet Kind.ReleaseComplete = 7
-kindOctet Kind.Tick = 8
+abbrev pub recordKindOctet : RecordKind → ℕ
+recordKindOctet RecordKind.Setup = 1
+recordKindOctet RecordKind.Alerting = 2
+recordKindOctet RecordKind.Connect = 3
+recordKindOctet RecordKind.Information = 4
+recordKindOctet RecordKind.Facility = 5
+recordKindOctet RecordKind.Disconnect = 6
+recordKindOctet RecordKind.ReleaseComplete = 7
+recordKindOctet RecordKind.Tick = 8
 
-unfoldable pub kindOf : ℕ → Named
-kindOf x =
-    cond (eqb x 1) (Named.Known Kind.Setup)
-    (cond (eqb x 2) (Named.Known Kind.Alerting)
-    (cond (eqb x 3) (Named.Known Kind.Connect)
-    (cond (eqb x 4) (Named.Known Kind.Information)
-    (cond (eqb x 5) (Named.Known Kind.Facility)
-    (cond (eqb x 6) (Named.Known Kind.Disconnect)
-    (cond (eqb x 7) (Named.Known Kind.ReleaseComplete)
-    (cond (eqb x 8) (Named.Known Kind.Tick) Named.Unknown)))))))
+unfoldable pub recordKindOf : ℕ → NamedKind
+recordKindOf x =
+    cond (eqb x 1) (NamedKind.Known RecordKind.Setup)
+    (cond (eqb x 2) (NamedKind.Known RecordKind.Alerting)
+    (cond (eqb x 3) (NamedKind.Known RecordKind.Connect)
+    (cond (eqb x 4) (NamedKind.Known RecordKind.Information)
+    (cond (eqb x 5) (NamedKind.Known RecordKind.Facility)
+    (cond (eqb x 6) (NamedKind.Known RecordKind.Disconnect)
+    (cond (eqb x 7) (NamedKind.Known RecordKind.ReleaseComplete)
+    (cond (eqb x 8) (NamedKind.Known RecordKind.Tick) NamedKind.Unknown)))))))
 
-abbrev pub bodyOf : Kind → ℕ
-bodyOf Kind.Setup = 143
-bodyOf Kind.Alerting = 137
-bodyOf Kind.Connect = 137
-bodyOf Kind.Information = 135
-bodyOf Kind.Facility = 4
-bodyOf Kind.Disconnect = 139
-bodyOf Kind.ReleaseComplete = 3
-bodyOf Kind.Tick = 2
+abbrev pub bodyOf : RecordKind → ℕ
+bodyOf RecordKind.Setup = 143
+bodyOf RecordKind.Alerting = 137
+bodyOf RecordKind.Connect = 137
+bodyOf RecordKind.Information = 135
+bodyOf RecordKind.Facility = 4
+bodyOf RecordKind.Disconnect = 139
+bodyOf RecordKind.ReleaseComplete = 3
+bodyOf RecordKind.Tick = 2
 
 -- the octet of kind and the body
-abbrev pub sizeOf : Kind → ℕ
+abbrev pub sizeOf : RecordKind → ℕ
 sizeOf k = 1 + bodyOf k

@@ -1,8 +1,8 @@
 // The kinds of record, and how long a record of each is.
 ghost use mathlib.Core.Path.{_≡_};
-ghost use Rattle.trace.specs.Kind.{kindOf, sizeOf};
+ghost use Rattle.trace.specs.Kind.{recordKindOf, sizeOf};
 
-pub enum Kind {
+pub enum RecordKind {
     Setup,
     Alerting,
     Connect,
@@ -13,39 +13,39 @@ pub enum Kind {
     Tick,
 }
 
-pub enum Named {
+pub enum NamedKind {
     Unknown,
-    Known(Kind),
+    Known(RecordKind),
 }
 
-pub(crate) fn kind_in(x: u8) -> Named
-    ensures { λ r. ⌜ r ≡ kindOf x ⌝ }
+pub(crate) fn record_kind_in(x: u8) -> NamedKind
+    ensures { λ r. ⌜ r ≡ recordKindOf x ⌝ }
 {
     match x {
-        1 => Named::Known(Kind::Setup),
-        2 => Named::Known(Kind::Alerting),
-        3 => Named::Known(Kind::Connect),
-        4 => Named::Known(Kind::Information),
-        5 => Named::Known(Kind::Facility),
-        6 => Named::Known(Kind::Disconnect),
-        7 => Named::Known(Kind::ReleaseComplete),
-        8 => Named::Known(Kind::Tick),
-        _ => Named::Unknown,
+        1 => NamedKind::Known(RecordKind::Setup),
+        2 => NamedKind::Known(RecordKind::Alerting),
+        3 => NamedKind::Known(RecordKind::Connect),
+        4 => NamedKind::Known(RecordKind::Information),
+        5 => NamedKind::Known(RecordKind::Facility),
+        6 => NamedKind::Known(RecordKind::Disconnect),
+        7 => NamedKind::Known(RecordKind::ReleaseComplete),
+        8 => NamedKind::Known(RecordKind::Tick),
+        _ => NamedKind::Unknown,
     }
 }
 
 // How many octets a record has, its octet of kind included.
-pub fn size(k: Kind) -> usize
+pub fn size(k: RecordKind) -> usize
     ensures { λ r. ⌜ r ≡ sizeOf k ⌝ }
 {
     match k {
-        Kind::Setup => 144,
-        Kind::Alerting => 138,
-        Kind::Connect => 138,
-        Kind::Information => 136,
-        Kind::Facility => 5,
-        Kind::Disconnect => 140,
-        Kind::ReleaseComplete => 4,
-        Kind::Tick => 3,
+        RecordKind::Setup => 144,
+        RecordKind::Alerting => 138,
+        RecordKind::Connect => 138,
+        RecordKind::Information => 136,
+        RecordKind::Facility => 5,
+        RecordKind::Disconnect => 140,
+        RecordKind::ReleaseComplete => 4,
+        RecordKind::Tick => 3,
     }
 }

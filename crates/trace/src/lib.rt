@@ -3,13 +3,13 @@ ghost use mathlib.Core.Path.{_≡_};
 ghost use Prim.Native.Nat.{_≤_, _<_, _+_};
 ghost use lib.ListN.{length};
 ghost use Rattle.trace.specs.Kind.{sizeOf};
-ghost use Rattle.trace.specs.declared.kind.Named.{Named};
-ghost use Rattle.trace.specs.Reading.{referenceOf, fieldAtOf, placeOf, closesOf, rangedOf, rightsOf, namedOf, requestsOf, answersOf, eventOf, countOf, entryOf, recordOf};
+ghost use Rattle.trace.specs.declared.kind.NamedKind.{NamedKind};
+ghost use Rattle.trace.specs.Reading.{recordReferenceOf, fieldAtOf, placeOf, closesOf, rangedOf, rightsOf, namedOf, requestsOf, answersOf, eventOf, countOf, entryOf, recordOf};
 ghost use Rattle.trace.specs.Recorded.{elementOf};
 use crate::field::field_fits;
-use crate::kind::Kind;
-use crate::kind::Named;
-use crate::kind::kind_in;
+use crate::kind::NamedKind;
+use crate::kind::RecordKind;
+use crate::kind::record_kind_in;
 use crate::kind::size;
 use crate::values::flag_in;
 use crate::values::given_in;
@@ -35,7 +35,7 @@ pub enum Fault {
 
 // at: where the element's octets begin in the record; count: how many there are, 0 for absent.
 pub struct Entry {
-    pub kind: Kind,
+    pub kind: RecordKind,
     pub reference: u16,
     pub event: Event,
     pub at: usize,
@@ -62,7 +62,7 @@ fn wide(x: u8) -> usize
 
 fn reference(t: &[u8]) -> u16
     requires { ⌜ 3 ≤ length (now t) ⌝ }
-    ensures { λ r. ⌜ r ≡ referenceOf (now (t .entry)) ⌝ }
+    ensures { λ r. ⌜ r ≡ recordReferenceOf (now (t .entry)) ⌝ }
 {
     wide16(t[1]) * 256 + wide16(t[2])
 }
@@ -84,19 +84,19 @@ fn closes(t: &[u8], p: usize) -> bool
 }
 
 // Whether every field of a record that is all there is in range.
-fn ranged(k: Kind, t: &[u8]) -> bool
+fn ranged(k: RecordKind, t: &[u8]) -> bool
     requires { ⌜ sizeOf k ≤ length (now t) ⌝ }
     ensures { λ r. ⌜ r ≡ rangedOf k (now (t .entry)) ⌝ }
 {
     match k {
-        Kind::Setup => (t[4] <= 1) & (t[5] <= 1) & closes(t, 9),
-        Kind::Alerting => closes(t, 3),
-        Kind::Connect => closes(t, 3),
-        Kind::Information => (t[3] <= 1) & field_at(t, 4),
-        Kind::Facility => (t[3] <= 1) & (t[4] <= 3),
-        Kind::Disconnect => (t[3] <= 1) & (t[4] <= 127) & closes(t, 5),
-        Kind::ReleaseComplete => t[3] <= 1,
-        Kind::Tick => true,
+        RecordKind::Setup => (t[4] <= 1) & (t[5] <= 1) & closes(t, 9),
+        RecordKind::Alerting => closes(t, 3),
+        RecordKind::Connect => closes(t, 3),
+        RecordKind::Information => (t[3] <= 1) & field_at(t, 4),
+        RecordKind::Facility => (t[3] <= 1) & (t[4] <= 3),
+        RecordKind::Disconnect => (t[3] <= 1) & (t[4] <= 127) & closes(t, 5),
+        RecordKind::ReleaseComplete => t[3] <= 1,
+        RecordKind::Tick => true,
     }
 }
 
@@ -137,54 +137,54 @@ fn answers(t: &[u8], p: usize) -> Answers
 }
 
 // The event of a record that is all there and in range.
-fn event(k: Kind, t: &[u8]) -> Event
+fn event(k: RecordKind, t: &[u8]) -> Event
     requires { ⌜ sizeOf k ≤ length (now t) ⌝ }
     ensures { λ r. ⌜ r ≡ eventOf k (now (t .entry)) ⌝ }
 {
     match k {
-        Kind::Setup => Event::Setup {
+        RecordKind::Setup => Event::Setup {
             reference: reference(t),
             rights: rights(t),
             requests: requests(t, 9),
         },
-        Kind::Alerting => Event::Alerting {
+        RecordKind::Alerting => Event::Alerting {
             answers: answers(t, 3),
         },
-        Kind::Connect => Event::Connect {
+        RecordKind::Connect => Event::Connect {
             answers: answers(t, 3),
         },
-        Kind::Information => Event::Information {
+        RecordKind::Information => Event::Information {
             side: side_in(t[3]),
             more: false,
         },
-        Kind::Facility => Event::Facility {
+        RecordKind::Facility => Event::Facility {
             side: side_in(t[3]),
             what: what_in(t[4]),
         },
-        Kind::Disconnect => Event::Disconnect {
+        RecordKind::Disconnect => Event::Disconnect {
             side: side_in(t[3]),
             cause: t[4],
             answers: answers(t, 5),
         },
-        Kind::ReleaseComplete => Event::ReleaseComplete {
+        RecordKind::ReleaseComplete => Event::ReleaseComplete {
             side: side_in(t[3]),
         },
-        Kind::Tick => Event::Tick,
+        RecordKind::Tick => Event::Tick,
     }
 }
 
-fn place(k: Kind) -> usize
+fn place(k: RecordKind) -> usize
     ensures { λ r. ⌜ (r ≡ placeOf k) × (r ≤ 12) ⌝ }
 {
     match k {
-        Kind::Setup => 12,
-        Kind::Alerting => 6,
-        Kind::Connect => 6,
-        Kind::Information => 4,
-        Kind::Facility => 0,
-        Kind::Disconnect => 8,
-        Kind::ReleaseComplete => 0,
-        Kind::Tick => 0,
+        RecordKind::Setup => 12,
+        RecordKind::Alerting => 6,
+        RecordKind::Connect => 6,
+        RecordKind::Information => 4,
+        RecordKind::Facility => 0,
+        RecordKind::Disconnect => 8,
+        RecordKind::ReleaseComplete => 0,
+        RecordKind::Tick => 0,
     }
 }
 
@@ -198,7 +198,7 @@ fn count(t: &[u8], p: usize) -> usize
     if p < t.len() { wide(t[p]) } else { 0 }
 }
 
-fn taken(k: Kind, t: &[u8]) -> Entry
+fn taken(k: RecordKind, t: &[u8]) -> Entry
     requires { ⌜ sizeOf k ≤ length (now t) ⌝ }
     ensures { λ r. ⌜ r ≡ entryOf k (now (t .entry)) ⌝ }
 {
@@ -212,8 +212,8 @@ fn taken(k: Kind, t: &[u8]) -> Entry
     }
 }
 
-fn read_kind(k: Kind, t: &[u8]) -> Record
-    ensures { λ r. ⌜ r ≡ namedOf (Named.Known k) (now (t .entry)) ⌝ }
+fn read_kind(k: RecordKind, t: &[u8]) -> Record
+    ensures { λ r. ⌜ r ≡ namedOf (NamedKind.Known k) (now (t .entry)) ⌝ }
 {
     if t.len() < size(k) {
         return Record::Refused(Fault::Short);
@@ -231,9 +231,9 @@ pub fn read_record(t: &[u8]) -> Record
     if t.len() == 0 {
         return Record::End;
     }
-    match kind_in(t[0]) {
-        Named::Unknown => Record::Refused(Fault::Kind),
-        Named::Known(k) => read_kind(k, t),
+    match record_kind_in(t[0]) {
+        NamedKind::Unknown => Record::Refused(Fault::Kind),
+        NamedKind::Known(k) => read_kind(k, t),
     }
 }
 

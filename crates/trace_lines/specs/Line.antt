@@ -4,8 +4,8 @@ use mathlib.Core.List.{List, [], _∷_, _++_}
 use mathlib.Core.Bool.{Bool, true, false}
 use Rattle.user_element.specs.Element.{noteNumberOf}
 use Rattle.sent.specs.declared.Sent.{Sent}
-use Rattle.message_types.specs.Kind.{kindOctet as typeOctet}
-use Rattle.trace.specs.Kind.{kindOctet}
+use Rattle.message_types.specs.Kind.{recordKindOctet as typeOctet}
+use Rattle.trace.specs.Kind.{recordKindOctet}
 use Rattle.text.specs.Decimal.{decimalOf}
 use Rattle.text.specs.Hex.{hexOf}
 use Rattle.text.specs.Columns.{dash, column}
@@ -25,7 +25,7 @@ saidColumns false o = []
 -- kind, reference, answer and note, "in decimal"
 unfoldable pub numberColumns : Columns → List ℕ
 numberColumns o =
-    decimalOf (kindOctet (o .kind)) ++ column (decimalOf (o .reference)) ++ column (decimalOf (o .answer)) ++ column (decimalOf (noteNumberOf (o .note)))
+    decimalOf (recordKindOctet (o .kind)) ++ column (decimalOf (o .reference)) ++ column (decimalOf (o .answer)) ++ column (decimalOf (noteNumberOf (o .note)))
 
 unfoldable pub typeColumns : Columns → List ℕ
 typeColumns o = column (typeColumn (o .calling)) ++ column (typeColumn (o .called))

@@ -3,7 +3,7 @@ use Prim.Native.Nat.{ℕ}
 use mathlib.Core.List.{List, [], _∷_, _++_}
 use mathlib.Core.Bool.{Bool, true, false}
 use Rattle.trace.specs.declared.Fault.{Fault}
-use Rattle.trace.specs.Reading.{faultNumber}
+use Rattle.trace.specs.Reading.{traceFaultNumber}
 use Rattle.text.specs.Decimal.{decimalOf}
 
 -- "`kind ref answer note calling called`"
@@ -29,4 +29,4 @@ firstLine true = sixNames ++ twoNames ++ (10 ∷ [])
 
 -- "A trace fault prints `error 31` (or 32, 33)"
 abbrev pub faultLine : Fault → List ℕ
-faultLine f = 101 ∷ 114 ∷ 114 ∷ 111 ∷ 114 ∷ 32 ∷ (decimalOf (faultNumber f) ++ (10 ∷ []))
+faultLine f = 101 ∷ 114 ∷ 114 ∷ 111 ∷ 114 ∷ 32 ∷ (decimalOf (traceFaultNumber f) ++ (10 ∷ []))

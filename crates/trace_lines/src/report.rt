@@ -4,7 +4,7 @@ ghost use mathlib.Core.Bool.{true};
 ghost use Prim.Native.Nat.{_+_, _≤_};
 ghost use lib.ListN.{length};
 ghost use Rattle.memory.specs.Room.{Written};
-ghost use Rattle.trace.specs.Kind.{kindOctet};
+ghost use Rattle.trace.specs.Kind.{recordKindOctet};
 ghost use Rattle.text.specs.Decimal.{decimalOf};
 ghost use Rattle.text.specs.Pieces.{Piece};
 ghost use Rattle.text.specs.Columns.{column};
@@ -18,12 +18,12 @@ use message_types::kind_octet;
 use sent::Sent;
 use text::decimal::write_decimal;
 use text::hex::write_hex;
-use trace::kind::Kind;
+use trace::kind::RecordKind;
 use user_element::Note;
 
 // What the columns of a record say. answer: the paper's number; calling and called: what is sent to each user.
 pub struct Columns {
-    pub kind: Kind,
+    pub kind: RecordKind,
     pub reference: u16,
     pub answer: u8,
     pub note: Note,
@@ -72,18 +72,18 @@ fn put_saids(buf: &mut [u8], at: usize, explained: bool, o: Columns) -> usize
     at
 }
 
-fn record_kind(k: Kind) -> u8
-    ensures { λ r. ⌜ r ≡ kindOctet k ⌝ }
+fn record_kind(k: RecordKind) -> u8
+    ensures { λ r. ⌜ r ≡ recordKindOctet k ⌝ }
 {
     match k {
-        Kind::Setup => 1,
-        Kind::Alerting => 2,
-        Kind::Connect => 3,
-        Kind::Information => 4,
-        Kind::Facility => 5,
-        Kind::Disconnect => 6,
-        Kind::ReleaseComplete => 7,
-        Kind::Tick => 8,
+        RecordKind::Setup => 1,
+        RecordKind::Alerting => 2,
+        RecordKind::Connect => 3,
+        RecordKind::Information => 4,
+        RecordKind::Facility => 5,
+        RecordKind::Disconnect => 6,
+        RecordKind::ReleaseComplete => 7,
+        RecordKind::Tick => 8,
     }
 }
 

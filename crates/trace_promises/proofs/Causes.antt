@@ -31,7 +31,7 @@ use Rattle.call.specs.declared.reply.Reply.{Reply}
 use Rattle.call.specs.Sound.{soundOf}
 use Rattle.call.specs.Reply.{barOf, refusedOf, heardOf, replyOf}
 use Rattle.call.specs.Setup.{proceedsOf, setupOf}
-use Rattle.call.specs.Answering.{goesOnOf, clearsOf, outcomeOf, answeredOf, alertingOf, connectOf}
+use Rattle.call.specs.Answering.{goesOnOf, clearsOf, answeringOf, answeredOf, alertingOf, connectOf}
 use Rattle.call.specs.Information.{carriedOf, withElementOf, informationOf}
 use Rattle.facility_rules.specs.Telling.{aboutThreeOf}
 use Rattle.call.specs.Facility.{passesFacilityOf, facilityOf}
@@ -42,7 +42,7 @@ use Rattle.call.specs.Step.{notAnEventOf, stepOf}
 use Rattle.table.specs.declared.choice.Choice.{Choice}
 use Rattle.table.specs.declared.settle.Outcome.{Outcome}
 use Rattle.table.specs.Chosen.{chosenOf}
-use Rattle.table.specs.Settle.{settledOf, refusalOf, outcomeOf as settledOutcome}
+use Rattle.table.specs.Settle.{settledOf, tableRefusalOf, answeringOf as settledOutcome}
 use Rattle.table.specs.Step.{outcomeAt, stepOutcome}
 use Rattle.logic.proofs.Decide.{by-cond}
 use Rattle.call_promises.proofs.Failing.{alerting-cause, connect-cause}
@@ -97,7 +97,7 @@ setup-says reference rights q seen =
       called = by-cond SentIn (lacksOf rights q) (λ _. tt) (λ _. saying-in _ _ _ _ tt);
     }
 
-outcome-says : (c : Call) (kind : Kind) (next : Phase) (f : Fates) (seen : Seen) (x : Cause) → CauseIn x → Says (outcomeOf c kind next f seen x)
+outcome-says : (c : Call) (kind : Kind) (next : Phase) (f : Fates) (seen : Seen) (x : Cause) → CauseIn x → Says (answeringOf c kind next f seen x)
 unfolding goesOnOf clearsOf bareOf
 outcome-says c kind next f seen Cause.Absent h = record { calling = saying-in _ _ _ _ tt; called = tt }
 outcome-says c kind next f seen (Cause.Value n) h = record { calling = saying-in _ _ _ _ h; called = saying-in _ _ _ _ (omega arith) }
@@ -151,7 +151,7 @@ pub record Tells (o : Outcome) : Type 0 where
   pub called : SentIn (o .called)
 
 chosen-tells : (calls : List Call) (x : Choice) (e : Event) (l : List ℕ) → Tells (outcomeAt calls x e l)
-unfolding settledOf settledOutcome refusalOf
+unfolding settledOf settledOutcome tableRefusalOf
 chosen-tells calls (Choice.At i) e l = let s = says _ e l in record { calling = s .calling; called = s .called }
 chosen-tells calls (Choice.Refused v) e l = record { calling = tt; called = tt }
 

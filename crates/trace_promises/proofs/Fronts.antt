@@ -9,13 +9,13 @@ use borrow.Author.Tests.{le-leb, le-ltb, ltb-false, ltb-true, ne-eqb}
 use lib.Dec.{ltb}
 use lib.ListN.{length, getD, drop, length-append, length-drop, List·getD-append}
 use lib.Seq.{take-append-le, drop-append-le}
-use Rattle.trace.specs.declared.kind.Kind.{Kind}
-use Rattle.trace.specs.declared.kind.Named.{Named}
+use Rattle.trace.specs.declared.kind.RecordKind.{RecordKind}
+use Rattle.trace.specs.declared.kind.NamedKind.{NamedKind}
 use Rattle.trace.specs.declared.Entry.{Entry}
 use Rattle.trace.specs.declared.Fault.{Fault}
 use Rattle.trace.specs.declared.Record.{Record}
-use Rattle.trace.specs.Kind.{kindOf, sizeOf}
-use Rattle.trace.specs.Reading.{referenceOf, fieldAtOf, placeOf, closesOf, rangedOf, rightsOf, requestsOf, answersOf, eventOf, countOf, entryOf, namedOf, recordOf}
+use Rattle.trace.specs.Kind.{recordKindOf, sizeOf}
+use Rattle.trace.specs.Reading.{recordReferenceOf, fieldAtOf, placeOf, closesOf, rangedOf, rightsOf, requestsOf, answersOf, eventOf, countOf, entryOf, namedOf, recordOf}
 use Rattle.trace.specs.Recorded.{elementOf}
 use Rattle.trace_promises.specs.Records.{Field, InRange}
 use Rattle.trace.proofs.Sizes.{least}
@@ -41,18 +41,18 @@ module _ (t more : List ℕ) where
   unfolding closesOf
   same-closes p h = rw (same p (omega arith), same (p + 1) (omega arith), same (p + 2) (omega arith), same-field (p + 3) (omega arith))
 
-  same-ranged : (k : Kind) → sizeOf k ≤ length t → rangedOf k (t ++ more) ≡ rangedOf k t
-  same-ranged Kind.Setup h = rw (same 4 (omega arith), same 5 (omega arith), same-closes 9 (omega arith))
-  same-ranged Kind.Alerting h = same-closes 3 (omega arith)
-  same-ranged Kind.Connect h = same-closes 3 (omega arith)
-  same-ranged Kind.Information h = rw (same 3 (omega arith), same-field 4 (omega arith))
-  same-ranged Kind.Facility h = rw (same 3 (omega arith), same 4 (omega arith))
-  same-ranged Kind.Disconnect h = rw (same 3 (omega arith), same 4 (omega arith), same-closes 5 (omega arith))
-  same-ranged Kind.ReleaseComplete h = rw (same 3 (omega arith))
-  same-ranged Kind.Tick h = refl
+  same-ranged : (k : RecordKind) → sizeOf k ≤ length t → rangedOf k (t ++ more) ≡ rangedOf k t
+  same-ranged RecordKind.Setup h = rw (same 4 (omega arith), same 5 (omega arith), same-closes 9 (omega arith))
+  same-ranged RecordKind.Alerting h = same-closes 3 (omega arith)
+  same-ranged RecordKind.Connect h = same-closes 3 (omega arith)
+  same-ranged RecordKind.Information h = rw (same 3 (omega arith), same-field 4 (omega arith))
+  same-ranged RecordKind.Facility h = rw (same 3 (omega arith), same 4 (omega arith))
+  same-ranged RecordKind.Disconnect h = rw (same 3 (omega arith), same 4 (omega arith), same-closes 5 (omega arith))
+  same-ranged RecordKind.ReleaseComplete h = rw (same 3 (omega arith))
+  same-ranged RecordKind.Tick h = refl
 
-  same-reference : 3 ≤ length t → referenceOf (t ++ more) ≡ referenceOf t
-  unfolding referenceOf
+  same-reference : 3 ≤ length t → recordReferenceOf (t ++ more) ≡ recordReferenceOf t
+  unfolding recordReferenceOf
   same-reference h = rw (same 1 (omega arith), same 2 (omega arith))
 
   same-requests : (p : ℕ) → p + 3 ≤ length t → requestsOf p (t ++ more) ≡ requestsOf p t
@@ -75,58 +75,58 @@ module _ (t more : List ℕ) where
         same 8 (omega arith),
       )
 
-  same-event : (k : Kind) → sizeOf k ≤ length t → eventOf k (t ++ more) ≡ eventOf k t
-  same-event Kind.Setup h = rw (same-reference (omega arith), same-rights (omega arith), same-requests 9 (omega arith))
-  same-event Kind.Alerting h = rw (same-answers 3 (omega arith))
-  same-event Kind.Connect h = rw (same-answers 3 (omega arith))
-  same-event Kind.Information h = rw (same 3 (omega arith))
-  same-event Kind.Facility h = rw (same 3 (omega arith), same 4 (omega arith))
-  same-event Kind.Disconnect h = rw (same 3 (omega arith), same 4 (omega arith), same-answers 5 (omega arith))
-  same-event Kind.ReleaseComplete h = rw (same 3 (omega arith))
-  same-event Kind.Tick h = refl
+  same-event : (k : RecordKind) → sizeOf k ≤ length t → eventOf k (t ++ more) ≡ eventOf k t
+  same-event RecordKind.Setup h = rw (same-reference (omega arith), same-rights (omega arith), same-requests 9 (omega arith))
+  same-event RecordKind.Alerting h = rw (same-answers 3 (omega arith))
+  same-event RecordKind.Connect h = rw (same-answers 3 (omega arith))
+  same-event RecordKind.Information h = rw (same 3 (omega arith))
+  same-event RecordKind.Facility h = rw (same 3 (omega arith), same 4 (omega arith))
+  same-event RecordKind.Disconnect h = rw (same 3 (omega arith), same 4 (omega arith), same-answers 5 (omega arith))
+  same-event RecordKind.ReleaseComplete h = rw (same 3 (omega arith))
+  same-event RecordKind.Tick h = refl
 
-  same-count : (k : Kind) → sizeOf k ≤ length t → countOf (placeOf k) (t ++ more) ≡ countOf (placeOf k) t
+  same-count : (k : RecordKind) → sizeOf k ≤ length t → countOf (placeOf k) (t ++ more) ≡ countOf (placeOf k) t
   unfolding countOf
-  same-count Kind.Setup h = same 12 (omega arith)
-  same-count Kind.Alerting h = same 6 (omega arith)
-  same-count Kind.Connect h = same 6 (omega arith)
-  same-count Kind.Information h = same 4 (omega arith)
-  same-count Kind.Facility h = refl
-  same-count Kind.Disconnect h = same 8 (omega arith)
-  same-count Kind.ReleaseComplete h = refl
-  same-count Kind.Tick h = refl
+  same-count RecordKind.Setup h = same 12 (omega arith)
+  same-count RecordKind.Alerting h = same 6 (omega arith)
+  same-count RecordKind.Connect h = same 6 (omega arith)
+  same-count RecordKind.Information h = same 4 (omega arith)
+  same-count RecordKind.Facility h = refl
+  same-count RecordKind.Disconnect h = same 8 (omega arith)
+  same-count RecordKind.ReleaseComplete h = refl
+  same-count RecordKind.Tick h = refl
 
-  same-entry : (k : Kind) → sizeOf k ≤ length t → entryOf k (t ++ more) ≡ entryOf k t
+  same-entry : (k : RecordKind) → sizeOf k ≤ length t → entryOf k (t ++ more) ≡ entryOf k t
   unfolding entryOf
   same-entry k h = rw (same-reference (omega (arith, least k)), same-event k h, same-count k h)
 
-  kind-stays : (k : Kind) (a : Bool) → ltb (length t) (sizeOf k) ≡ a → Stays (cond a (Record.Refused Fault.Short) (cond (rangedOf k t) (Record.Taken (entryOf k t)) (Record.Refused Fault.Range))) → namedOf (Named.Known k) (t ++ more) ≡ namedOf (Named.Known k) t
+  kind-stays : (k : RecordKind) (a : Bool) → ltb (length t) (sizeOf k) ≡ a → Stays (cond a (Record.Refused Fault.Short) (cond (rangedOf k t) (Record.Taken (entryOf k t)) (Record.Refused Fault.Range))) → namedOf (NamedKind.Known k) (t ++ more) ≡ namedOf (NamedKind.Known k) t
   kind-stays k true e s = absurd s
   kind-stays k false e s =
       let h = ltb-false (length t) (sizeOf k) e in
       let g = le-ltb (length (t ++ more)) (sizeOf k) (rw length-append (omega arith)) in
       rw (g, e, same-ranged k h, same-entry k h)
 
-  named-stays : (n : Named) → Stays (namedOf n t) → namedOf n (t ++ more) ≡ namedOf n t
-  named-stays Named.Unknown s = refl
-  named-stays (Named.Known k) s = kind-stays k (ltb (length t) (sizeOf k)) refl s
+  named-stays : (n : NamedKind) → Stays (namedOf n t) → namedOf n (t ++ more) ≡ namedOf n t
+  named-stays NamedKind.Unknown s = refl
+  named-stays (NamedKind.Known k) s = kind-stays k (ltb (length t) (sizeOf k)) refl s
 
 -- none at the end of a trace
 pub record-none : recordOf [] ≡ Record.End
 unfolding recordOf
 record-none = refl
 
-record-some : (x : ℕ) (t : List ℕ) → recordOf (x ∷ t) ≡ namedOf (kindOf x) (x ∷ t)
+record-some : (x : ℕ) (t : List ℕ) → recordOf (x ∷ t) ≡ namedOf (recordKindOf x) (x ∷ t)
 unfolding recordOf
 record-some x t = rw (ne-eqb (length (x ∷ t)) 0 (λ h. absurd (omega arith)))
 
 pub stays : (t more : List ℕ) → Stays (recordOf t) → recordOf (t ++ more) ≡ recordOf t
 stays [] more s = absurd (rw record-none at s)
-stays (x ∷ t) more s = record-some x (t ++ more) ∙ named-stays (x ∷ t) more (kindOf x) (rw (record-some x t) at s) ∙ sym (record-some x t)
+stays (x ∷ t) more s = record-some x (t ++ more) ∙ named-stays (x ∷ t) more (recordKindOf x) (rw (record-some x t) at s) ∙ sym (record-some x t)
 
 -- a record that is taken
 pub record Whole (t : List ℕ) (e : Entry) : Type 0 where
-  pub kind : Kind
+  pub kind : RecordKind
   pub entry : e ≡ entryOf kind t
   pub within : sizeOf kind ≤ length t
   pub ranged : rangedOf kind t ≡ true
@@ -139,28 +139,28 @@ Told t (Record.Refused Fault.Kind) = Unit {0}
 Told t (Record.Refused Fault.Short) = length t ≤ 143
 Told t (Record.Refused Fault.Range) = Unit {0}
 
-largest : (k : Kind) → sizeOf k ≤ 144
-largest Kind.Setup = omega arith
-largest Kind.Alerting = omega arith
-largest Kind.Connect = omega arith
-largest Kind.Information = omega arith
-largest Kind.Facility = omega arith
-largest Kind.Disconnect = omega arith
-largest Kind.ReleaseComplete = omega arith
-largest Kind.Tick = omega arith
+largest : (k : RecordKind) → sizeOf k ≤ 144
+largest RecordKind.Setup = omega arith
+largest RecordKind.Alerting = omega arith
+largest RecordKind.Connect = omega arith
+largest RecordKind.Information = omega arith
+largest RecordKind.Facility = omega arith
+largest RecordKind.Disconnect = omega arith
+largest RecordKind.ReleaseComplete = omega arith
+largest RecordKind.Tick = omega arith
 
-kind-told : (t : List ℕ) (k : Kind) (a b : Bool) → ltb (length t) (sizeOf k) ≡ a → rangedOf k t ≡ b → Told t (cond a (Record.Refused Fault.Short) (cond b (Record.Taken (entryOf k t)) (Record.Refused Fault.Range)))
+kind-told : (t : List ℕ) (k : RecordKind) (a b : Bool) → ltb (length t) (sizeOf k) ≡ a → rangedOf k t ≡ b → Told t (cond a (Record.Refused Fault.Short) (cond b (Record.Taken (entryOf k t)) (Record.Refused Fault.Range)))
 kind-told t k true b e f = let h = ltb-true (length t) (sizeOf k) e in let g = largest k in omega arith
 kind-told t k false true e f = record { kind = k; entry = refl; within = ltb-false (length t) (sizeOf k) e; ranged = f }
 kind-told t k false false e f = tt
 
-named-told : (t : List ℕ) (n : Named) → Told t (namedOf n t)
-named-told t Named.Unknown = tt
-named-told t (Named.Known k) = kind-told t k (ltb (length t) (sizeOf k)) (rangedOf k t) refl refl
+named-told : (t : List ℕ) (n : NamedKind) → Told t (namedOf n t)
+named-told t NamedKind.Unknown = tt
+named-told t (NamedKind.Known k) = kind-told t k (ltb (length t) (sizeOf k)) (rangedOf k t) refl refl
 
 pub told : (t : List ℕ) → Told t (recordOf t)
 told [] = rw record-none refl
-told (x ∷ t) = rw (record-some x t) (named-told (x ∷ t) (kindOf x))
+told (x ∷ t) = rw (record-some x t) (named-told (x ∷ t) (recordKindOf x))
 
 -- its size
 pub size-least : {t : List ℕ} {e : Entry} → Whole t e → 3 ≤ sizeOf (e .kind)
@@ -174,16 +174,16 @@ size-within w = rw (w .entry) (w .within)
 field-small : (t : List ℕ) (p : ℕ) → Field t p → getD t p 0 ≤ 131
 field-small t p f = ⊎-elim (λ z. omega (arith, z)) (λ h. h .most) (f .element)
 
-inside : (k : Kind) (t : List ℕ) → sizeOf k ≤ length t → InRange k t → placeOf k + 1 + countOf (placeOf k) t ≤ length t
+inside : (k : RecordKind) (t : List ℕ) → sizeOf k ≤ length t → InRange k t → placeOf k + 1 + countOf (placeOf k) t ≤ length t
 unfolding countOf
-inside Kind.Setup t h r = let f = field-small t 12 (r .3) in omega arith
-inside Kind.Alerting t h r = let f = field-small t 6 (r .1) in omega arith
-inside Kind.Connect t h r = let f = field-small t 6 (r .1) in omega arith
-inside Kind.Information t h r = let f = field-small t 4 (r .1) in omega arith
-inside Kind.Facility t h r = omega arith
-inside Kind.Disconnect t h r = let f = field-small t 8 (r .3) in omega arith
-inside Kind.ReleaseComplete t h r = omega arith
-inside Kind.Tick t h r = omega arith
+inside RecordKind.Setup t h r = let f = field-small t 12 (r .3) in omega arith
+inside RecordKind.Alerting t h r = let f = field-small t 6 (r .1) in omega arith
+inside RecordKind.Connect t h r = let f = field-small t 6 (r .1) in omega arith
+inside RecordKind.Information t h r = let f = field-small t 4 (r .1) in omega arith
+inside RecordKind.Facility t h r = omega arith
+inside RecordKind.Disconnect t h r = let f = field-small t 8 (r .3) in omega arith
+inside RecordKind.ReleaseComplete t h r = omega arith
+inside RecordKind.Tick t h r = omega arith
 
 part-inside : {t : List ℕ} {e : Entry} → Whole t e → e .at + e .count ≤ length t
 unfolding entryOf

@@ -23,12 +23,12 @@ use Rattle.call.specs.Tick.{runsOf, passesTickOf, tickOf}
 use Rattle.table.specs.Table.{tableSound}
 use Rattle.table.specs.Chosen.{chosenOf}
 use Rattle.table.specs.Choice.{chooseOf}
-use Rattle.table.specs.Settle.{subjectOf, keptOf, outcomeOf, refusalOf, settledOf}
+use Rattle.table.specs.Settle.{subjectOf, recordKeptOf, heardOutcomeOf, tableRefusalOf, settledOf}
 use Rattle.table.specs.Step.{stepOutcome, stepTable}
-use Rattle.trace.specs.Kind.{kindOf}
+use Rattle.trace.specs.Kind.{recordKindOf}
 use Rattle.trace.specs.Field.{blankOf, fieldFitsOf}
 use Rattle.trace.specs.Values.{flagOf, requestOf}
-use Rattle.trace.specs.Reading.{referenceOf, fieldAtOf, closesOf, rightsOf, requestsOf, countOf, entryOf, recordOf}
+use Rattle.trace.specs.Reading.{recordReferenceOf, fieldAtOf, closesOf, rightsOf, requestsOf, countOf, entryOf, recordOf}
 use Rattle.trace.specs.Recorded.{elementOf}
 use Rattle.logic.proofs.Tests.{both}
 use Rattle.text.specs.Decimal.{digitsOf, decimalOf}
@@ -37,7 +37,7 @@ use Rattle.trace_lines.specs.Items.{itemsOf, commas, joined}
 use Rattle.trace_lines.specs.Line.{numberColumns, typeColumns, lineOf}
 use Rattle.trace_run.specs.Fronts.{frontOf}
 use Rattle.trace_run.specs.Entries.{columnsOf}
-use Rattle.trace_run.specs.Run.{turnedAt, lineAt, runIn, runOf}
+use Rattle.trace_run.specs.Run.{turnedAt, lineAt, runIn, traceRunOf}
 use Rattle.trace_promises.specs.WholeRun.{Octets, Run}
 use Rattle.trace_promises.specs.Instances.{onePart, otherPart, endLine, lines, strangeLine, Ran, Met}
 
@@ -53,7 +53,7 @@ all-octets (x ∷ t) h (suc i) = all-octets t (both (ltb x 256) (below t) h .1) 
 
 -- the first part is read, and its line is printed where it fits exactly; the tick waits for the second; what is left of that is the last
 ran : (explained : Bool) → Ran explained (onePart ++ otherPart ++ []) (lines explained)
-unfolding emptyOf meterFitsOf wellFormedOf seenOf goesOutOf rightsFitOf referenceFitsOf remainsOf firstStandingOf standingsOf lacksOf passedRequestsOf networkRefusalsOf nobodyAsks sayingOf onlyIfOf noRights noServices emptyMeters freshCall fieldsFitOf soundOf barOf refusedOf heardOf setupPhaseOf filledOf toCallerOf toCalledOf setupCarriesOf proceedsOf setupOf metersOf refillsOf readyOf runsOf passesTickOf tickOf tableSound chooseOf chosenOf subjectOf keptOf outcomeOf refusalOf settledOf stepOutcome stepTable kindOf flagOf requestOf blankOf fieldFitsOf referenceOf fieldAtOf closesOf rightsOf requestsOf countOf entryOf recordOf elementOf digitsOf decimalOf digitOf itemsOf commas joined numberColumns typeColumns lineOf frontOf turnedAt columnsOf lineAt runIn runOf
+unfolding emptyOf meterFitsOf wellFormedOf seenOf goesOutOf rightsFitOf referenceFitsOf remainsOf firstStandingOf standingsOf lacksOf passedRequestsOf networkRefusalsOf nobodyAsks sayingOf onlyIfOf noRights noServices emptyMeters freshCall fieldsFitOf soundOf barOf refusedOf heardOf setupPhaseOf filledOf toCallerOf toCalledOf setupCarriesOf proceedsOf setupOf metersOf refillsOf readyOf runsOf passesTickOf tickOf tableSound chooseOf chosenOf subjectOf recordKeptOf heardOutcomeOf tableRefusalOf settledOf stepOutcome stepTable recordKindOf flagOf requestOf blankOf fieldFitsOf recordReferenceOf fieldAtOf closesOf rightsOf requestsOf countOf entryOf recordOf elementOf digitsOf decimalOf digitOf itemsOf commas joined numberColumns typeColumns lineOf frontOf turnedAt columnsOf lineAt runIn traceRunOf
 ran false =
     record {
       left = _;
@@ -76,7 +76,7 @@ ran true =
     }
 
 strange-ran : Ran false (8 ∷ 0 ∷ 5 ∷ []) (strangeLine ++ endLine)
-unfolding freshCall soundOf tableSound chooseOf chosenOf refusalOf stepOutcome stepTable kindOf referenceOf countOf entryOf recordOf elementOf digitsOf decimalOf numberColumns typeColumns lineOf frontOf turnedAt columnsOf lineAt runIn runOf
+unfolding freshCall soundOf tableSound chooseOf chosenOf tableRefusalOf stepOutcome stepTable recordKindOf recordReferenceOf countOf entryOf recordOf elementOf digitsOf decimalOf numberColumns typeColumns lineOf frontOf turnedAt columnsOf lineAt runIn traceRunOf
 strange-ran =
     record {
       left = _;
@@ -87,7 +87,7 @@ strange-ran =
     }
 
 empty-ran : Ran false [] []
-unfolding runIn runOf
+unfolding runIn traceRunOf
 empty-ran = record { left = _; run = Run.nothing [] (Run.ended 143 [] (omega arith) refl) }
 
 pub met : Met

@@ -18,11 +18,11 @@ use Rattle.call.specs.declared.Call.{Call}
 use Rattle.table.specs.declared.verdict.Verdict.{Verdict}
 use Rattle.table.specs.Verdict.{verdictNumber}
 use Rattle.table.specs.Step.{stepOutcome}
-use Rattle.trace.specs.declared.kind.Kind.{Kind}
+use Rattle.trace.specs.declared.kind.RecordKind.{RecordKind}
 use Rattle.trace.specs.declared.Entry.{Entry}
 use Rattle.trace.specs.declared.Fault.{Fault}
-use Rattle.trace.specs.Kind.{kindOctet}
-use Rattle.trace.specs.Reading.{faultNumber, referenceOf, entryOf}
+use Rattle.trace.specs.Kind.{recordKindOctet}
+use Rattle.trace.specs.Reading.{traceFaultNumber, recordReferenceOf, entryOf}
 use Rattle.trace.specs.Recorded.{elementOf}
 use Rattle.text.specs.Decimal.{decimalOf}
 use Rattle.text.proofs.Digits.{at-most}
@@ -100,15 +100,15 @@ message-short Sent.Absent h = omega arith
 message-short (Sent.Present m) h = joined-short (itemsOf m) 61 (items-short m h) (omega arith)
 
 -- the other columns
-kind-small : (k : Kind) → kindOctet k ≤ 9
-kind-small Kind.Setup = omega arith
-kind-small Kind.Alerting = omega arith
-kind-small Kind.Connect = omega arith
-kind-small Kind.Information = omega arith
-kind-small Kind.Facility = omega arith
-kind-small Kind.Disconnect = omega arith
-kind-small Kind.ReleaseComplete = omega arith
-kind-small Kind.Tick = omega arith
+kind-small : (k : RecordKind) → recordKindOctet k ≤ 9
+kind-small RecordKind.Setup = omega arith
+kind-small RecordKind.Alerting = omega arith
+kind-small RecordKind.Connect = omega arith
+kind-small RecordKind.Information = omega arith
+kind-small RecordKind.Facility = omega arith
+kind-small RecordKind.Disconnect = omega arith
+kind-small RecordKind.ReleaseComplete = omega arith
+kind-small RecordKind.Tick = omega arith
 
 answer-small : (a : Answer) → numberOf a ≤ 25
 answer-small Answer.Taken = omega arith
@@ -149,7 +149,7 @@ pub record ColumnsIn (o : Columns) : Type 0 where
 numbers-short : (o : Columns) → ColumnsIn o → length (numberColumns o) ≤ 12
 unfolding numberColumns
 numbers-short o h =
-    let a = at-most 0 (kindOctet (o .kind)) (omega (arith, kind-small (o .kind))) in
+    let a = at-most 0 (recordKindOctet (o .kind)) (omega (arith, kind-small (o .kind))) in
     let b = at-most 4 (o .reference) (omega (arith, h .reference)) in
     let c = at-most 1 (o .answer) (omega (arith, h .answer)) in
     let d = at-most 0 (noteNumberOf (o .note)) (omega (arith, note-small (o .note))) in
@@ -179,7 +179,7 @@ line-short explained o h =
 
 -- the line of a record
 reference-in : (t : List ℕ) (e : Entry) → Octets t → Whole t e → e .reference ≤ 65535
-unfolding entryOf referenceOf
+unfolding entryOf recordReferenceOf
 reference-in t e o w = rw (w .entry) (let a = o 1 in let b = o 2 in omega arith)
 
 columns-in : (calls : List Call) (t : List ℕ) (e : Entry) → Octets t → Whole t e → ColumnsIn (columnsOf e (turnedAt calls e t .outcome))
@@ -203,9 +203,9 @@ unfolding lineAt lineOf
 line-some explained calls t e = simp length-append (omega arith)
 
 pub fault-short : (f : Fault) → length (faultLine f) ≤ 143
-fault-short f = let n = at-most 1 (faultNumber f) (omega (arith, fault-small f)) in simp length-append (omega arith)
+fault-short f = let n = at-most 1 (traceFaultNumber f) (omega (arith, fault-small f)) in simp length-append (omega arith)
   where
-    fault-small : (f : Fault) → faultNumber f ≤ 33
+    fault-small : (f : Fault) → traceFaultNumber f ≤ 33
     fault-small Fault.Kind = omega arith
     fault-small Fault.Short = omega arith
     fault-small Fault.Range = omega arith

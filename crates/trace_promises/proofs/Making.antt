@@ -16,7 +16,7 @@ use Rattle.trace.specs.Kind.{sizeOf}
 use Rattle.trace.specs.Reading.{recordOf}
 use Rattle.trace_lines.specs.Notices.{faultLine}
 use Rattle.trace_run.specs.declared.front.Front.{Front}
-use Rattle.trace_run.specs.Fronts.{heardOf, frontOf}
+use Rattle.trace_run.specs.Fronts.{heededOf, frontOf}
 use Rattle.trace_run.specs.Run.{turnedAt, lineAt, Ran, rests, ends, goes, turnOf, runIn}
 use Rattle.trace_promises.specs.WholeRun.{Made, madeBy, madeIn, madeOf, thenMade}
 use Rattle.trace_promises.proofs.Fronts.{Whole, told, stays, size-least, size-within, same-element}
@@ -114,7 +114,7 @@ module _ (explained last : Bool) (calls : List Call) (t more : List ℕ) (end : 
   short-turn true l h = fault-turn Fault.Short (rw (end l, append-nil) h)
   short-turn false l h = went-none explained calls t more
 
-  pub turn : (r : Record) → recordOf t ≡ r → Went explained calls t more (turnOf (heardOf last r) explained room calls t next)
+  pub turn : (r : Record) → recordOf t ≡ r → Went explained calls t more (turnOf (heededOf last r) explained room calls t next)
   turn Record.End h = went-none explained calls t more
   turn (Record.Refused Fault.Kind) h = fault-turn Fault.Kind (stays t more (rw h tt) ∙ h)
   turn (Record.Refused Fault.Short) h = short-turn last refl h

@@ -9,7 +9,7 @@ use borrow.Author.Tests.{ltb-false, leb-true, le-leb, eqb-true, le-ltb, eq-eqb, 
 use lib.ListN.{length, getD, take, drop, length-take, length-drop}
 use lib.Seq.{getD-take, getD-drop, length-take-le}
 use lib.Dec.{ltb, leb, eqb}
-use Rattle.trace.specs.declared.kind.Kind.{Kind}
+use Rattle.trace.specs.declared.kind.RecordKind.{RecordKind}
 use Rattle.trace.specs.Kind.{sizeOf}
 use Rattle.trace.specs.Field.{blankOf, fieldFitsOf}
 use Rattle.trace.specs.Reading.{fieldAtOf, closesOf, rangedOf}
@@ -134,32 +134,32 @@ closes : (t : List ℕ) (p : ℕ) → p + 135 ≤ length t → Three t p → Fie
 unfolding closesOf
 closes t p s h f = simp (le-leb _ _ (h .one), le-leb _ _ (h .two), le-leb _ _ (h .three), field-fits t (p + 3) (omega arith) f)
 
-pub in-range : (k : Kind) (t : List ℕ) → sizeOf k ≤ length t → rangedOf k t ≡ true → InRange k t
-in-range Kind.Setup t s h =
+pub in-range : (k : RecordKind) (t : List ℕ) → sizeOf k ≤ length t → rangedOf k t ≡ true → InRange k t
+in-range RecordKind.Setup t s h =
     let a = both _ (closesOf 9 t) h in
     let b = both (leb (getD t 4 0) 1) (leb (getD t 5 0) 1) (a .0) in
     let c = closes-in t 9 (omega arith) (a .1) in
     (leb-true _ _ (b .0), leb-true _ _ (b .1), c .0, c .1)
-in-range Kind.Alerting t s h = closes-in t 3 (omega arith) h
-in-range Kind.Connect t s h = closes-in t 3 (omega arith) h
-in-range Kind.Information t s h =
+in-range RecordKind.Alerting t s h = closes-in t 3 (omega arith) h
+in-range RecordKind.Connect t s h = closes-in t 3 (omega arith) h
+in-range RecordKind.Information t s h =
     let a = both (leb (getD t 3 0) 1) (fieldAtOf 4 t) h in (leb-true _ _ (a .0), field-in t 4 (omega arith) (a .1))
-in-range Kind.Facility t s h =
+in-range RecordKind.Facility t s h =
     let a = both (leb (getD t 3 0) 1) (leb (getD t 4 0) 3) h in (leb-true _ _ (a .0), leb-true _ _ (a .1))
-in-range Kind.Disconnect t s h =
+in-range RecordKind.Disconnect t s h =
     let a = both _ (closesOf 5 t) h in
     let b = both (leb (getD t 3 0) 1) (leb (getD t 4 0) 127) (a .0) in
     let c = closes-in t 5 (omega arith) (a .1) in
     (leb-true _ _ (b .0), leb-true _ _ (b .1), c .0, c .1)
-in-range Kind.ReleaseComplete t s h = leb-true _ _ h
-in-range Kind.Tick t s h = tt
+in-range RecordKind.ReleaseComplete t s h = leb-true _ _ h
+in-range RecordKind.Tick t s h = tt
 
-pub ranged : (k : Kind) (t : List ℕ) → sizeOf k ≤ length t → InRange k t → rangedOf k t ≡ true
-ranged Kind.Setup t s h = simp (le-leb _ _ (h .0), le-leb _ _ (h .1), closes t 9 (omega arith) (h .2) (h .3))
-ranged Kind.Alerting t s h = closes t 3 (omega arith) (h .0) (h .1)
-ranged Kind.Connect t s h = closes t 3 (omega arith) (h .0) (h .1)
-ranged Kind.Information t s h = simp (le-leb _ _ (h .0), field-fits t 4 (omega arith) (h .1))
-ranged Kind.Facility t s h = simp (le-leb _ _ (h .0), le-leb _ _ (h .1))
-ranged Kind.Disconnect t s h = simp (le-leb _ _ (h .0), le-leb _ _ (h .1), closes t 5 (omega arith) (h .2) (h .3))
-ranged Kind.ReleaseComplete t s h = le-leb _ _ h
-ranged Kind.Tick t s h = refl
+pub ranged : (k : RecordKind) (t : List ℕ) → sizeOf k ≤ length t → InRange k t → rangedOf k t ≡ true
+ranged RecordKind.Setup t s h = simp (le-leb _ _ (h .0), le-leb _ _ (h .1), closes t 9 (omega arith) (h .2) (h .3))
+ranged RecordKind.Alerting t s h = closes t 3 (omega arith) (h .0) (h .1)
+ranged RecordKind.Connect t s h = closes t 3 (omega arith) (h .0) (h .1)
+ranged RecordKind.Information t s h = simp (le-leb _ _ (h .0), field-fits t 4 (omega arith) (h .1))
+ranged RecordKind.Facility t s h = simp (le-leb _ _ (h .0), le-leb _ _ (h .1))
+ranged RecordKind.Disconnect t s h = simp (le-leb _ _ (h .0), le-leb _ _ (h .1), closes t 5 (omega arith) (h .2) (h .3))
+ranged RecordKind.ReleaseComplete t s h = le-leb _ _ h
+ranged RecordKind.Tick t s h = refl

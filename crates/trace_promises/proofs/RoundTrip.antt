@@ -14,13 +14,13 @@ use Rattle.facility_rules.specs.declared.What.{What}
 use Rattle.sent.specs.declared.side.Side.{Side}
 use Rattle.services.specs.declared.Given.{Given}
 use Rattle.services.specs.declared.Request.{Request}
-use Rattle.trace.specs.declared.kind.Kind.{Kind}
-use Rattle.trace.specs.declared.kind.Named.{Named}
+use Rattle.trace.specs.declared.kind.RecordKind.{RecordKind}
+use Rattle.trace.specs.declared.kind.NamedKind.{NamedKind}
 use Rattle.trace.specs.declared.Entry.{Entry}
 use Rattle.trace.specs.declared.Record.{Record}
-use Rattle.trace.specs.Kind.{kindOf, sizeOf}
+use Rattle.trace.specs.Kind.{recordKindOf, sizeOf}
 use Rattle.trace.specs.Values.{flagOf, sideOf, requestOf, givenOf, whatOf}
-use Rattle.trace.specs.Reading.{referenceOf, rightsOf, requestsOf, answersOf, eventOf, placeOf, countOf, entryOf, recordOf}
+use Rattle.trace.specs.Reading.{recordReferenceOf, rightsOf, requestsOf, answersOf, eventOf, placeOf, countOf, entryOf, recordOf}
 use Rattle.trace.specs.Recorded.{elementOf}
 use Rattle.recorder.specs.Writing.{flagOctet, sideOctet, requestOctet, givenOctet, whatOctet, fieldOctets, headOctets, recordOctets, recordFitsOf}
 use Rattle.trace_promises.specs.Records.{Zeros, Held, Field, InRange}
@@ -163,7 +163,7 @@ module _ (h u rest : List ℕ) (fit : elementFitsOf u ≡ true) where
       rw (length-append h (fieldOctets u ++ rest), length-append (fieldOctets u) rest, field-is u s) (omega arith)
 
 -- a record that is whole and in range
-whole : (k : Kind) (t : List ℕ) → kindOf (getD t 0 0) ≡ Named.Known k → 3 ≤ length t → sizeOf k ≤ length t → InRange k t → recordOf t ≡ Record.Taken (entryOf k t)
+whole : (k : RecordKind) (t : List ℕ) → recordKindOf (getD t 0 0) ≡ NamedKind.Known k → 3 ≤ length t → sizeOf k ≤ length t → InRange k t → recordOf t ≡ Record.Taken (entryOf k t)
 unfolding recordOf
 whole k t e l s i = simp (ne-eqb (length t) 0 (λ z. omega arith), e) (sym (named-taken k t s (ranged k t s i)))
 
@@ -172,7 +172,7 @@ nothing-is [] h = refl
 nothing-is (x ∷ xs) h = absurd (omega arith)
 
 -- an event without an element field
-bare-back : (r : ℕ) (e : Event) (k : Kind) (u t : List ℕ) → kindOf (getD t 0 0) ≡ Named.Known k → 3 ≤ length t → sizeOf k ≤ length t → InRange k t → referenceOf t ≡ r → eventOf k t ≡ e → placeOf k ≡ 0 → eqb (length u) 0 ≡ true → Again r e u t
+bare-back : (r : ℕ) (e : Event) (k : RecordKind) (u t : List ℕ) → recordKindOf (getD t 0 0) ≡ NamedKind.Known k → 3 ≤ length t → sizeOf k ≤ length t → InRange k t → recordReferenceOf t ≡ r → eventOf k t ≡ e → placeOf k ≡ 0 → eqb (length u) 0 ≡ true → Again r e u t
 unfolding entryOf countOf elementOf
 bare-back r e k u t a l s i b d p z =
     record {
@@ -186,7 +186,7 @@ bare-back r e k u t a l s i b d p z =
     }
 
 -- an event with one
-fielded-back : (r : ℕ) (e : Event) (k : Kind) (p : ℕ) (h u rest : List ℕ) → (fit : elementFitsOf u ≡ true) → kindOf (getD (h ++ (fieldOctets u ++ rest)) 0 0) ≡ Named.Known k → sizeOf k ≡ length h + 132 → InRange k (h ++ (fieldOctets u ++ rest)) → referenceOf (h ++ (fieldOctets u ++ rest)) ≡ r → eventOf k (h ++ (fieldOctets u ++ rest)) ≡ e → placeOf k ≡ suc p → suc p ≡ length h → Again r e u ((h ++ fieldOctets u) ++ rest)
+fielded-back : (r : ℕ) (e : Event) (k : RecordKind) (p : ℕ) (h u rest : List ℕ) → (fit : elementFitsOf u ≡ true) → recordKindOf (getD (h ++ (fieldOctets u ++ rest)) 0 0) ≡ NamedKind.Known k → sizeOf k ≡ length h + 132 → InRange k (h ++ (fieldOctets u ++ rest)) → recordReferenceOf (h ++ (fieldOctets u ++ rest)) ≡ r → eventOf k (h ++ (fieldOctets u ++ rest)) ≡ e → placeOf k ≡ suc p → suc p ≡ length h → Again r e u ((h ++ fieldOctets u) ++ rest)
 unfolding entryOf
 fielded-back r e k p h u rest fit a s i b d q w =
     let t = h ++ (fieldOctets u ++ rest) in
@@ -206,13 +206,13 @@ fielded-back r e k p h u rest fit a s i b d q w =
 
 -- every event that fits
 pub round-trip : (r : ℕ) (e : Event) (u rest : List ℕ) → recordFitsOf r e u ≡ true → Again r e u (recordOctets r e u ++ rest)
-unfolding recordFitsOf recordOctets kindOf referenceOf rightsOf requestsOf answersOf
+unfolding recordFitsOf recordOctets recordKindOf recordReferenceOf rightsOf requestsOf answersOf
 round-trip r (Event.Setup n rights q) u rest h =
     let a = both ((eqb n r && ltb (rights .burst) 256) && ltb (rights .refill) 256) (elementFitsOf u) h in
     let b = both (eqb n r && ltb (rights .burst) 256) (ltb (rights .refill) 256) (a .0) in
     let c = both (eqb n r) (ltb (rights .burst) 256) (b .0) in
     let same : n ≡ r = eqb-true n r (c .0) in
-    fielded-back r (Event.Setup n rights q) Kind.Setup 11 (headOctets r (Event.Setup n rights q)) u rest (a .1) refl refl (
+    fielded-back r (Event.Setup n rights q) RecordKind.Setup 11 (headOctets r (Event.Setup n rights q)) u rest (a .1) refl refl (
       flag-small (rights .late),
       flag-small (rights .leave),
       record { one = request-small (q .one); two = request-small (q .two); three = request-small (q .three) },
@@ -232,26 +232,26 @@ round-trip r (Event.Setup n rights q) u rest h =
     ))
     refl refl
 round-trip r (Event.Alerting x) u rest h =
-    fielded-back r (Event.Alerting x) Kind.Alerting 5 (headOctets r (Event.Alerting x)) u rest h refl refl
+    fielded-back r (Event.Alerting x) RecordKind.Alerting 5 (headOctets r (Event.Alerting x)) u rest h refl refl
     (record { one = given-small (x .one); two = given-small (x .two); three = given-small (x .three) }, field-back (headOctets r (Event.Alerting x)) u rest h)
     (reference-back r) (simp (given-back (x .one), given-back (x .two), given-back (x .three))) refl refl
 round-trip r (Event.Connect x) u rest h =
-    fielded-back r (Event.Connect x) Kind.Connect 5 (headOctets r (Event.Connect x)) u rest h refl refl
+    fielded-back r (Event.Connect x) RecordKind.Connect 5 (headOctets r (Event.Connect x)) u rest h refl refl
     (record { one = given-small (x .one); two = given-small (x .two); three = given-small (x .three) }, field-back (headOctets r (Event.Connect x)) u rest h)
     (reference-back r) (simp (given-back (x .one), given-back (x .two), given-back (x .three))) refl refl
 round-trip r (Event.Information side more) u rest h =
     let a = both (not more) (elementFitsOf u) h in
     let no : more ≡ false = not-true more (a .0) in
-    fielded-back r (Event.Information side more) Kind.Information 3 (headOctets r (Event.Information side more)) u rest (a .1) refl refl
+    fielded-back r (Event.Information side more) RecordKind.Information 3 (headOctets r (Event.Information side more)) u rest (a .1) refl refl
     (side-small side, field-back (headOctets r (Event.Information side more)) u rest (a .1))
     (reference-back r) (simp (side-back side, no)) refl refl
 round-trip r (Event.Facility side what) u rest h =
-    bare-back r (Event.Facility side what) Kind.Facility u _ refl (omega arith) (omega arith) (side-small side, what-small what)
+    bare-back r (Event.Facility side what) RecordKind.Facility u _ refl (omega arith) (omega arith) (side-small side, what-small what)
     (reference-back r) (simp (side-back side, what-back what)) refl h
 round-trip r (Event.Disconnect side cause x) u rest h =
     let a = both (ltb cause 128) (elementFitsOf u) h in
     let l = ltb-true cause 128 (a .0) in
-    fielded-back r (Event.Disconnect side cause x) Kind.Disconnect 7 (headOctets r (Event.Disconnect side cause x)) u rest (a .1) refl refl (
+    fielded-back r (Event.Disconnect side cause x) RecordKind.Disconnect 7 (headOctets r (Event.Disconnect side cause x)) u rest (a .1) refl refl (
       side-small side,
       omega arith,
       record { one = given-small (x .one); two = given-small (x .two); three = given-small (x .three) },
@@ -259,8 +259,8 @@ round-trip r (Event.Disconnect side cause x) u rest h =
     )
     (reference-back r) (simp (side-back side, given-back (x .one), given-back (x .two), given-back (x .three))) refl refl
 round-trip r (Event.ReleaseComplete side) u rest h =
-    bare-back r (Event.ReleaseComplete side) Kind.ReleaseComplete u _ refl (omega arith) (omega arith) (side-small side)
+    bare-back r (Event.ReleaseComplete side) RecordKind.ReleaseComplete u _ refl (omega arith) (omega arith) (side-small side)
     (reference-back r) (simp (side-back side)) refl h
-round-trip r Event.Tick u rest h = bare-back r Event.Tick Kind.Tick u _ refl (omega arith) (omega arith) tt (reference-back r) refl refl h
+round-trip r Event.Tick u rest h = bare-back r Event.Tick RecordKind.Tick u _ refl (omega arith) (omega arith) tt (reference-back r) refl refl h
 round-trip r Event.CallProceeding u rest h = absurd (true≢false (sym h))
 round-trip r Event.CongestionControl u rest h = absurd (true≢false (sym h))

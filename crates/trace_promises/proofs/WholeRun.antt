@@ -17,16 +17,16 @@ use Rattle.trace.specs.Reading.{recordOf}
 use Rattle.trace.proofs.Sizes.{least}
 use Rattle.trace_lines.specs.Notices.{faultLine}
 use Rattle.trace_run.specs.declared.front.Front.{Front}
-use Rattle.trace_run.specs.Fronts.{heardOf, frontOf}
-use Rattle.trace_run.specs.Run.{lineAt, Ran, turnOf, runIn, runOf}
+use Rattle.trace_run.specs.Fronts.{heededOf, frontOf}
+use Rattle.trace_run.specs.Run.{lineAt, Ran, turnOf, runIn, traceRunOf}
 use Rattle.trace_promises.specs.WholeRun.{madeOf, printedOf, GoesOn, Octets, longest, Bounded, Run, WholeRun, Runs, Always}
 use Rattle.trace_promises.proofs.Fronts.{record-none}
 use Rattle.logic.proofs.Decide.{by-cond}
 use Rattle.trace_promises.proofs.Making.{taken, none-left, cut-short, made-end, Went, went}
 use Rattle.trace_promises.proofs.Lines.{record-short, line-some, fault-short}
 
-piece : (explained last : Bool) (room : ℕ) (calls : List Call) (t more : List ℕ) → (last ≡ true → more ≡ []) → Went explained calls t more (runOf explained last room calls t)
-unfolding runOf
+piece : (explained last : Bool) (room : ℕ) (calls : List Call) (t more : List ℕ) → (last ≡ true → more ≡ []) → Went explained calls t more (traceRunOf explained last room calls t)
+unfolding traceRunOf
 piece explained last room calls t more end = went (length t) explained last room calls t more end
 
 pub goes-on : GoesOn
@@ -55,7 +55,7 @@ module _ (explained last : Bool) (calls : List Call) (room : ℕ) (roomy : longe
     short-idle true h = absurd (fault-idle Fault.Short h)
     short-idle false h = refl
 
-    idle-turn : (r : Record) → recordOf t ≡ r → turnOf (heardOf last r) explained room calls t next .text ≡ [] → Idle r
+    idle-turn : (r : Record) → recordOf t ≡ r → turnOf (heededOf last r) explained room calls t next .text ≡ [] → Idle r
     idle-turn Record.End e h = tt
     idle-turn (Record.Taken x) e h =
         let n = record-short explained calls t x o (taken t x e) in
@@ -65,8 +65,8 @@ module _ (explained last : Bool) (calls : List Call) (room : ℕ) (roomy : longe
     idle-turn (Record.Refused Fault.Short) e h = short-idle last h
     idle-turn (Record.Refused Fault.Range) e h = fault-idle Fault.Range h
 
-  idle : (t : List ℕ) → Octets t → runOf explained last room calls t .text ≡ [] → Idle (recordOf t)
-  unfolding runOf runIn frontOf recordOf
+  idle : (t : List ℕ) → Octets t → traceRunOf explained last room calls t .text ≡ [] → Idle (recordOf t)
+  unfolding traceRunOf runIn frontOf recordOf
   idle [] o h = tt
   idle (x ∷ t) o h = idle-turn (x ∷ t) o _ (recordOf (x ∷ t)) refl h
 
@@ -107,9 +107,9 @@ run end o (Run.reads held part more r) = rw append-assoc at (run (λ h. let z : 
 run end o (Run.nothing held r) = run (λ _. refl) o r
 run {explained} {calls} end o (Run.prints last room held more e r) =
     let w = piece explained last room calls held more end in
-    let p = run end (rest-octets held more (runOf explained last room calls held .used) (w .within) o) r in
+    let p = run end (rest-octets held more (traceRunOf explained last room calls held .used) (w .within) o) r in
     record {
-      lines = rw (w .made, e) (ap (λ (l : List ℕ). runOf explained last room calls held .text ++ l) (p .lines));
+      lines = rw (w .made, e) (ap (λ (l : List ℕ). traceRunOf explained last room calls held .text ++ l) (p .lines));
       table = rw (w .made, e) (p .table);
     }
 run {explained} {calls} end o (Run.faults last room held more e) =
@@ -134,7 +134,7 @@ module _ (explained last : Bool) (calls : List Call) (room : ℕ) (t : List ℕ)
   fault-moves : (f : Fault) → Moves (turnOf (Front.Faulty f) explained room calls t next)
   fault-moves f = by-cond Moves (leb (length (faultLine f)) room) (λ _. inr (inl refl)) (λ _. inl refl)
 
-  moves-turn : (r : Record) → Moves (turnOf (heardOf last r) explained room calls t next)
+  moves-turn : (r : Record) → Moves (turnOf (heededOf last r) explained room calls t next)
   moves-turn Record.End = inl refl
   moves-turn (Record.Taken e) =
       by-cond Moves (leb (length (lineAt explained calls e t)) room) (λ _. inr (inr (omega (arith, least (e .kind))))) (λ _. inl refl)
@@ -151,7 +151,7 @@ moves (suc k) explained last room calls t = moves-turn explained last calls room
 -- so the last piece is worked off in as many turns as it has octets
 module _ (explained : Bool) where
   abbrev turned : List Call → List ℕ → Ran
-  turned calls held = runOf explained true longest calls held
+  turned calls held = traceRunOf explained true longest calls held
 
   faulty : (calls : List Call) (held : List ℕ) → turned calls held .ended ≡ true → Runs explained true calls held []
   faulty calls held e = record { text = _; left = _; run = Run.faults true longest held [] e }
@@ -161,7 +161,7 @@ module _ (explained : Bool) where
   last-turn calls held false e r = record { text = _; left = _; run = Run.prints true longest held [] e (r .run) }
 
   last-piece : (calls : List Call) (held : List ℕ) → (1 ≤ turned calls held .used → Runs explained true (turned calls held .calls) (drop (turned calls held .used) held) []) → Runs explained true calls held []
-  unfolding runOf
+  unfolding traceRunOf
   last-piece calls held then =
       ⊎-elim (λ e. record { text = _; left = _; run = Run.ended longest held (omega arith) e })
       (λ m. ⊎-elim (faulty calls held) (λ u. last-turn calls held (turned calls held .ended) refl (then u)) m)

@@ -5,17 +5,17 @@ use mathlib.Core.Logic.{_⊎_}
 use mathlib.Core.Path.{_≡_}
 use lib.ListN.{length, getD}
 use Rattle.logic.specs.First.{Rows, end, row, Exactly}
-use Rattle.trace.specs.declared.kind.Kind.{Kind}
-use Rattle.trace.specs.declared.kind.Named.{Named}
+use Rattle.trace.specs.declared.kind.RecordKind.{RecordKind}
+use Rattle.trace.specs.declared.kind.NamedKind.{NamedKind}
 use Rattle.trace.specs.declared.Record.{Record}
-use Rattle.trace.specs.Kind.{kindOf, sizeOf}
-use Rattle.trace.specs.Reading.{faultNumber, recordOf}
+use Rattle.trace.specs.Kind.{recordKindOf, sizeOf}
+use Rattle.trace.specs.Reading.{traceFaultNumber, recordOf}
 
 -- an event, or the end of the trace, has number 0
 abbrev pub recordNumber : Record → ℕ
 recordNumber Record.End = 0
 recordNumber (Record.Taken e) = 0
-recordNumber (Record.Refused f) = faultNumber f
+recordNumber (Record.Refused f) = traceFaultNumber f
 
 -- RECORDS. "An element field is n (0 for absent, or 2 to 131), the n octets beginning 126 and n − 2, then zeros to 132 in all."
 pub record Zeros (t : List ℕ) (p q : ℕ) : Type 0 where
@@ -38,30 +38,30 @@ pub record Three (t : List ℕ) (p : ℕ) : Type 0 where
   pub three : getD t (p + 2) 0 ≤ 2
 
 -- "33: late, leave or side over 1, request or answer over 2, what over 3, cause over 127, element field not of that form."
-abbrev pub InRange : Kind → List ℕ → Type 0
-InRange Kind.Setup t = (getD t 4 0 ≤ 1) × (getD t 5 0 ≤ 1) × Three t 9 × Field t 12
-InRange Kind.Alerting t = Three t 3 × Field t 6
-InRange Kind.Connect t = Three t 3 × Field t 6
-InRange Kind.Information t = (getD t 3 0 ≤ 1) × Field t 4
-InRange Kind.Facility t = (getD t 3 0 ≤ 1) × (getD t 4 0 ≤ 3)
-InRange Kind.Disconnect t = (getD t 3 0 ≤ 1) × (getD t 4 0 ≤ 127) × Three t 5 × Field t 8
-InRange Kind.ReleaseComplete t = getD t 3 0 ≤ 1
-InRange Kind.Tick t = Unit {0}
+abbrev pub InRange : RecordKind → List ℕ → Type 0
+InRange RecordKind.Setup t = (getD t 4 0 ≤ 1) × (getD t 5 0 ≤ 1) × Three t 9 × Field t 12
+InRange RecordKind.Alerting t = Three t 3 × Field t 6
+InRange RecordKind.Connect t = Three t 3 × Field t 6
+InRange RecordKind.Information t = (getD t 3 0 ≤ 1) × Field t 4
+InRange RecordKind.Facility t = (getD t 3 0 ≤ 1) × (getD t 4 0 ≤ 3)
+InRange RecordKind.Disconnect t = (getD t 3 0 ≤ 1) × (getD t 4 0 ≤ 127) × Three t 5 × Field t 8
+InRange RecordKind.ReleaseComplete t = getD t 3 0 ≤ 1
+InRange RecordKind.Tick t = Unit {0}
 
-abbrev pub Short : Named → List ℕ → Type 0
-Short Named.Unknown t = ⊥
-Short (Named.Known k) t = length t < sizeOf k
+abbrev pub Short : NamedKind → List ℕ → Type 0
+Short NamedKind.Unknown t = ⊥
+Short (NamedKind.Known k) t = length t < sizeOf k
 
-abbrev pub OutOfRange : Named → List ℕ → Type 0
-OutOfRange Named.Unknown t = ⊥
-OutOfRange (Named.Known k) t = InRange k t → ⊥
+abbrev pub OutOfRange : NamedKind → List ℕ → Type 0
+OutOfRange NamedKind.Unknown t = ⊥
+OutOfRange (NamedKind.Known k) t = InRange k t → ⊥
 
 -- "31, 32, 33: unknown kind; record cut short; field out of range; in this order", where the trace does not end here
 abbrev pub recordRows : List ℕ → Rows
 recordRows t =
-    row ((1 ≤ length t) × (kindOf (getD t 0 0) ≡ Named.Unknown)) 31
-    (row ((1 ≤ length t) × Short (kindOf (getD t 0 0)) t) 32
-    (row ((1 ≤ length t) × OutOfRange (kindOf (getD t 0 0)) t) 33 end))
+    row ((1 ≤ length t) × (recordKindOf (getD t 0 0) ≡ NamedKind.Unknown)) 31
+    (row ((1 ≤ length t) × Short (recordKindOf (getD t 0 0)) t) 32
+    (row ((1 ≤ length t) × OutOfRange (recordKindOf (getD t 0 0)) t) 33 end))
 
 -- for every octet string at the front of a trace exactly one of an event (or the end), 31, 32, 33
 abbrev pub Records : Type 0

@@ -12,7 +12,7 @@ use Rattle.trace.specs.declared.Record.{Record}
 use Rattle.trace.specs.Kind.{sizeOf}
 use Rattle.trace.specs.Reading.{recordOf}
 use Rattle.trace_lines.specs.Notices.{firstLine, faultLine}
-use Rattle.trace_run.specs.Run.{turnedAt, lineAt, Ran, runOf}
+use Rattle.trace_run.specs.Run.{turnedAt, lineAt, Ran, traceRunOf}
 
 -- what a trace makes at a table: what is printed, the table that is left, and whether a fault ended the run
 pub record Made : Type 0 where
@@ -61,8 +61,8 @@ abbrev pub GoesOn : Type 0
 GoesOn =
     (explained last : Bool) (room : ℕ) (calls : List Call) (t more : List ℕ) → (last ≡ true → more ≡ []) →
     madeOf explained calls (t ++ more)
-    ≡ thenMade (runOf explained last room calls t)
-    (madeOf explained (runOf explained last room calls t .calls) (drop (runOf explained last room calls t .used) t ++ more))
+    ≡ thenMade (traceRunOf explained last room calls t)
+    (madeOf explained (traceRunOf explained last room calls t .calls) (drop (traceRunOf explained last room calls t .used) t ++ more))
 
 -- BOUNDED. The line of a record of octets has at most 143 octets, whatever stands in the table: 12 for the four numbers, 6 for the two types,
 -- 62 for what each of two messages says, and its end. So in a buffer of 143 octets there is room for any line, and what nothing is printed
@@ -76,8 +76,8 @@ longest = 143
 pub record Bounds (explained : Bool) (calls : List Call) (t : List ℕ) : Type 0 where
   pub line : (e : Entry) → recordOf t ≡ Record.Taken e → length (lineAt explained calls e t) ≤ longest
   pub fault : (f : Fault) → length (faultLine f) ≤ longest
-  pub waits : (room : ℕ) → longest ≤ room → runOf explained false room calls t .text ≡ [] → length t ≤ 143
-  pub ends : (room : ℕ) → longest ≤ room → runOf explained true room calls t .text ≡ [] → t ≡ []
+  pub waits : (room : ℕ) → longest ≤ room → traceRunOf explained false room calls t .text ≡ [] → length t ≤ 143
+  pub ends : (room : ℕ) → longest ≤ room → traceRunOf explained true room calls t .text ≡ [] → t ≡ []
 
 abbrev pub Bounded : Type 0
 Bounded = (explained : Bool) (calls : List Call) (t : List ℕ) → Octets t → Bounds explained calls t
@@ -94,15 +94,15 @@ pub data Run (explained : Bool) : Bool → List Call → List ℕ → List ℕ �
       → Run explained true calls held [] text left → Run explained false calls held [] text left
   prints :
       {calls left : List Call} (last : Bool) (room : ℕ) (held more : List ℕ) {text : List ℕ}
-      → runOf explained last room calls held .ended ≡ false
-      → Run explained last (runOf explained last room calls held .calls) (drop (runOf explained last room calls held .used) held) more text left
-      → Run explained last calls held more (runOf explained last room calls held .text ++ text) left
+      → traceRunOf explained last room calls held .ended ≡ false
+      → Run explained last (traceRunOf explained last room calls held .calls) (drop (traceRunOf explained last room calls held .used) held) more text left
+      → Run explained last calls held more (traceRunOf explained last room calls held .text ++ text) left
   faults :
       {calls : List Call} (last : Bool) (room : ℕ) (held more : List ℕ)
-      → runOf explained last room calls held .ended ≡ true
-      → Run explained last calls held more (runOf explained last room calls held .text) (runOf explained last room calls held .calls)
+      → traceRunOf explained last room calls held .ended ≡ true
+      → Run explained last calls held more (traceRunOf explained last room calls held .text) (traceRunOf explained last room calls held .calls)
   ended :
-      {calls : List Call} (room : ℕ) (held : List ℕ) → longest ≤ room → runOf explained true room calls held .text ≡ []
+      {calls : List Call} (room : ℕ) (held : List ℕ) → longest ≤ room → traceRunOf explained true room calls held .text ≡ []
       → Run explained true calls held [] [] calls
 
 -- WHOLE. However the reads fall and however much room there is at a time, a run from nothing and 32 fresh places prints what is to be printed

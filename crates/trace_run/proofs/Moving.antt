@@ -7,7 +7,6 @@ use lib.Dec.{leb}
 use lib.ListN.{length}
 use Rattle.memory.specs.declared.Wrote.{Wrote}
 use Rattle.memory.specs.Room.{placed, Written}
-use Rattle.text.proofs.Pieced.{no-piece}
 use Rattle.table.specs.declared.plan.Looked.{Looked}
 use Rattle.table.specs.declared.plan.Plan.{Plan}
 use Rattle.trace.specs.declared.Entry.{Entry}
@@ -21,6 +20,7 @@ use Rattle.trace_run.specs.declared.turn.Move.{Move}
 use Rattle.trace_run.specs.Turns.{halts, onceWritten, Printed}
 use Rattle.trace_run.proofs.turn.Printing.{prints}
 use Rattle.trace_run.specs.Move.{Moved}
+use Rattle.memory.proofs.Pieces.{no-put}
 
 -- a record's line
 pub line-prints : (explained : Bool) (e : Entry) (k : Looked) (t : List ℕ) {p : Plan} {cs : Columns} {n : ℕ} {s : Stand} {l l' : List ℕ} {w : Wrote} {r : Move} → p ≡ plannedAt k e t → cs ≡ columnsOf e (p .outcome) → n ≡ sizeOf (e .kind) → Written true (s .wrote) (lineOf explained cs) l l' w → r ≡ onceWritten w (p .put) (s .used + n) false true s → Moved explained (Front.Whole e) k t s l l' r
@@ -33,7 +33,7 @@ module _ (s : Stand) (l : List ℕ) where
   halts-at false = refl
 
   rests-at : (b : Bool) → l ≡ cond b (placed (s .wrote) [] l) l
-  rests-at true = no-piece {at = s .wrote} {l = l} .octets
+  rests-at true = no-put {at = s .wrote} {l = l} .octets
   rests-at false = refl
 
   pub waits : {r : Move} → r ≡ halts s → Printed [] (halts s) s l l r

@@ -9,15 +9,14 @@ use lib.Dec.{leb, ltb, eqb}
 use lib.ListN.{length, getD, take, drop, length-append, length-drop, drop-of-length-le}
 use lib.Seq.{drop-drop, take-at}
 use Rattle.memory.specs.Room.{placed}
-use Rattle.memory.proofs.Pieces.{length-placed, placed-then}
-use Rattle.text.proofs.Pieced.{no-piece}
+use Rattle.memory.proofs.Pieces.{length-placed, placed-then, no-put}
 use Rattle.call.specs.declared.Call.{Call}
-use Rattle.trace.specs.declared.kind.Kind.{Kind}
-use Rattle.trace.specs.declared.kind.Named.{Named}
+use Rattle.trace.specs.declared.kind.RecordKind.{RecordKind}
+use Rattle.trace.specs.declared.kind.NamedKind.{NamedKind}
 use Rattle.trace.specs.declared.Entry.{Entry}
 use Rattle.trace.specs.declared.Fault.{Fault}
 use Rattle.trace.specs.declared.Record.{Record}
-use Rattle.trace.specs.Kind.{sizeOf, kindOf}
+use Rattle.trace.specs.Kind.{sizeOf, recordKindOf}
 use Rattle.trace.specs.Reading.{recordOf, namedOf, entryOf, rangedOf}
 use Rattle.trace.specs.Recorded.{elementOf}
 use Rattle.trace.proofs.Sizes.{least}
@@ -31,9 +30,9 @@ use Rattle.table.specs.declared.plan.Looked.{Looked}
 use Rattle.table.specs.Halves.{lookOf, committed}
 use Rattle.table.proofs.step.Planned.{plan-told, plan-put}
 use Rattle.table_promises.proofs.Table.{one-place}
-use Rattle.trace_run.specs.Fronts.{heardOf, frontOf, referenceIn, eventIn}
+use Rattle.trace_run.specs.Fronts.{heededOf, frontOf, referenceIn, eventIn}
 use Rattle.trace_run.specs.Entries.{columnsOf, plannedAt}
-use Rattle.trace_run.specs.Run.{turnedAt, lineAt, Ran, rests, ends, goes, runIn, runOf, soFar, WorkedOff}
+use Rattle.trace_run.specs.Run.{turnedAt, lineAt, Ran, rests, ends, goes, runIn, traceRunOf, soFar, WorkedOff}
 use Rattle.trace_run.specs.Turns.{halts}
 use Rattle.trace_run.specs.Move.{sizeIn, textIn, beginning, moveIn, Moved}
 
@@ -48,19 +47,19 @@ module _ (last : Bool) (t : List ℕ) where
   cut-short true = omega arith
   cut-short false = omega arith
 
-  of-kind : (k : Kind) (a b : Bool) → ltb (length t) (sizeOf k) ≡ a → sizeIn (heardOf last (cond a (Record.Refused Fault.Short) (cond b (Record.Taken (entryOf k t)) (Record.Refused Fault.Range)))) ≤ length t
+  of-kind : (k : RecordKind) (a b : Bool) → ltb (length t) (sizeOf k) ≡ a → sizeIn (heededOf last (cond a (Record.Refused Fault.Short) (cond b (Record.Taken (entryOf k t)) (Record.Refused Fault.Range)))) ≤ length t
   unfolding entryOf
   of-kind k true b s = cut-short last
   of-kind k false true s = ltb-false (length t) (sizeOf k) s
   of-kind k false false s = omega arith
 
-  of-named : (n : Named) → sizeIn (heardOf last (namedOf n t)) ≤ length t
-  of-named Named.Unknown = omega arith
-  of-named (Named.Known k) = of-kind k (ltb (length t) (sizeOf k)) (rangedOf k t) refl
+  of-named : (n : NamedKind) → sizeIn (heededOf last (namedOf n t)) ≤ length t
+  of-named NamedKind.Unknown = omega arith
+  of-named (NamedKind.Known k) = of-kind k (ltb (length t) (sizeOf k)) (rangedOf k t) refl
 
-  of-record : (b : Bool) → sizeIn (heardOf last (cond b Record.End (namedOf (kindOf (getD t 0 0)) t))) ≤ length t
+  of-record : (b : Bool) → sizeIn (heededOf last (cond b Record.End (namedOf (recordKindOf (getD t 0 0)) t))) ≤ length t
   of-record true = omega arith
-  of-record false = of-named (kindOf (getD t 0 0))
+  of-record false = of-named (recordKindOf (getD t 0 0))
 
   fits : sizeIn (frontOf last t) ≤ length t
   unfolding frontOf recordOf
@@ -107,18 +106,18 @@ pub record Going (explained last : Bool) (first : List Call) (c l : List ℕ) (f
   pub room : k ≤ length out
   pub long : length out ≡ length l
   pub enough : length c - i ≤ fuel
-  pub calls : runIn fuel explained last (length out - k) table (drop i c) .calls ≡ runOf explained last (length l) first c .calls
-  pub used : i + runIn fuel explained last (length out - k) table (drop i c) .used ≡ runOf explained last (length l) first c .used
-  pub wrote : k + length (runIn fuel explained last (length out - k) table (drop i c) .text) ≡ length (runOf explained last (length l) first c .text)
-  pub ended : runIn fuel explained last (length out - k) table (drop i c) .ended ≡ runOf explained last (length l) first c .ended
-  pub buffer : placed k (runIn fuel explained last (length out - k) table (drop i c) .text) out ≡ placed 0 (runOf explained last (length l) first c .text) l
+  pub calls : runIn fuel explained last (length out - k) table (drop i c) .calls ≡ traceRunOf explained last (length l) first c .calls
+  pub used : i + runIn fuel explained last (length out - k) table (drop i c) .used ≡ traceRunOf explained last (length l) first c .used
+  pub wrote : k + length (runIn fuel explained last (length out - k) table (drop i c) .text) ≡ length (traceRunOf explained last (length l) first c .text)
+  pub ended : runIn fuel explained last (length out - k) table (drop i c) .ended ≡ traceRunOf explained last (length l) first c .ended
+  pub buffer : placed k (runIn fuel explained last (length out - k) table (drop i c) .text) out ≡ placed 0 (traceRunOf explained last (length l) first c .text) l
 
 pub record Goes (explained last : Bool) (first : List Call) (c l : List ℕ) (table : List Call) (out : List ℕ) (i k : ℕ) : Type 0 where
   pub fuel : ℕ
   pub going : Going explained last first c l fuel table out i k
 
 pub start : (explained last : Bool) (first : List Call) (c l : List ℕ) → Goes explained last first c l first l 0 0
-unfolding runOf
+unfolding traceRunOf
 start explained last first c l =
     let n : length l - 0 ≡ length l = omega arith in
     record {
@@ -149,7 +148,7 @@ module _ (explained last : Bool) (first : List Call) (c l : List ℕ) (table : L
         used = omega (arith, rw e at (g .used));
         wrote = omega (arith, rw e at (g .wrote));
         ended = rw e at (g .ended);
-        buffer = no-piece {at = k} {l = out} .octets ∙ (rw e at (g .buffer));
+        buffer = no-put {at = k} {l = out} .octets ∙ (rw e at (g .buffer));
       }
 
   pub stop-waits : Goes explained last first c l table out i k → frontOf last (drop i c) ≡ Front.Waits → WorkedOff explained last first c l out (record { calls = table; used = i; wrote = k; ended = false })
@@ -291,7 +290,7 @@ module _ (explained last : Bool) (first : List Call) (c l : List ℕ) (s : Stand
   left f b = cond b (placed (s .wrote) (textIn explained f (lookOf table (referenceIn f) (eventIn f)) t) out) out
 
   turn-by : (f : Front) (b : Bool) → frontOf last t ≡ f → leb (s .wrote + length (textIn explained f (lookOf table (referenceIn f) (eventIn f)) t)) (length out) ≡ b → Onward (left f b) (turned f b)
-  turn-by Front.Waits true h r = rw (sym (no-piece {at = s .wrote} {l = out} .octets)) (halted (stop-waits explained last first c l table out (s .used) (s .wrote) goes-on h))
+  turn-by Front.Waits true h r = rw (sym (no-put {at = s .wrote} {l = out} .octets)) (halted (stop-waits explained last first c l table out (s .used) (s .wrote) goes-on h))
   turn-by Front.Waits false h r = halted (stop-waits explained last first c l table out (s .used) (s .wrote) goes-on h)
   turn-by (Front.Faulty f) true h r =
       let n = leb-true _ _ r in

@@ -9,16 +9,16 @@ use Rattle.trace.specs.Reading.{recordOf}
 use Rattle.trace_run.specs.declared.front.Front.{Front}
 
 -- "record cut short" is a fault where nothing more comes; otherwise the rest of the record is waited for
-abbrev pub heardOf : Bool → Record → Front
-heardOf last Record.End = Front.Waits
-heardOf last (Record.Taken e) = Front.Whole e
-heardOf last (Record.Refused Fault.Kind) = Front.Faulty Fault.Kind
-heardOf last (Record.Refused Fault.Short) = cond last (Front.Faulty Fault.Short) Front.Waits
-heardOf last (Record.Refused Fault.Range) = Front.Faulty Fault.Range
+abbrev pub heededOf : Bool → Record → Front
+heededOf last Record.End = Front.Waits
+heededOf last (Record.Taken e) = Front.Whole e
+heededOf last (Record.Refused Fault.Kind) = Front.Faulty Fault.Kind
+heededOf last (Record.Refused Fault.Short) = cond last (Front.Faulty Fault.Short) Front.Waits
+heededOf last (Record.Refused Fault.Range) = Front.Faulty Fault.Range
 
 -- what a piece of trace begins with; last says that nothing comes after the piece
 unfoldable pub frontOf : Bool → List ℕ → Front
-frontOf last t = heardOf last (recordOf t)
+frontOf last t = heededOf last (recordOf t)
 
 -- what the table is asked; where there is no whole record the answer is not heeded
 abbrev pub referenceIn : Front → ℕ

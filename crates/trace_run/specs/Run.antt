@@ -69,16 +69,16 @@ runIn (suc k) explained last room calls t =
     runIn k explained last (room - length (lineAt explained calls e t)) (turnedAt calls e t .calls) (drop (sizeOf (e .kind)) t))
 
 -- all of them: there are no more records than octets
-unfoldable pub runOf : Bool → Bool → ℕ → List Call → List ℕ → Ran
-runOf explained last room calls t = runIn (length t) explained last room calls t
+unfoldable pub traceRunOf : Bool → Bool → ℕ → List Call → List ℕ → Ran
+traceRunOf explained last room calls t = runIn (length t) explained last room calls t
 
 abbrev pub soFar : List Call → ℕ → ℕ → Bool → Worked
 soFar calls used wrote ended = record { calls = calls; used = used; wrote = wrote; ended = ended }
 
 -- the answer r, and the buffer l' that is left: what was printed, and after it the octets that stood there
 pub record WorkedOff (explained last : Bool) (table : List Call) (t l l' : List ℕ) (r : Worked) : Type 0 where
-  pub calls : r .calls ≡ runOf explained last (length l) table t .calls
-  pub used : r .used ≡ runOf explained last (length l) table t .used
-  pub wrote : r .wrote ≡ length (runOf explained last (length l) table t .text)
-  pub ended : r .ended ≡ runOf explained last (length l) table t .ended
-  pub buffer : l' ≡ placed 0 (runOf explained last (length l) table t .text) l
+  pub calls : r .calls ≡ traceRunOf explained last (length l) table t .calls
+  pub used : r .used ≡ traceRunOf explained last (length l) table t .used
+  pub wrote : r .wrote ≡ length (traceRunOf explained last (length l) table t .text)
+  pub ended : r .ended ≡ traceRunOf explained last (length l) table t .ended
+  pub buffer : l' ≡ placed 0 (traceRunOf explained last (length l) table t .text) l

@@ -20,8 +20,8 @@ use crate::turn::fault_turn;
 use crate::turn::moves;
 use crate::turn::once_written;
 use call::Call;
+use table::plan::Change;
 use table::plan::Looked;
-use table::plan::Put;
 use table::step::commit;
 use table::step::look;
 use trace::Entry;
@@ -79,7 +79,7 @@ fn decide(piece: &[u8], f: Front, l: Looked, explained: bool, out: &mut [u8], s:
         Front::Waits => {
             let i = s.used;
             let k = s.wrote;
-            moves(Put::Nothing, i, k, false, false)
+            moves(Change::Nothing, i, k, false, false)
         }
         Front::Faulty(x) => fault_turn(x, out, s),
         Front::Whole(e) => record_turn(piece, e, l, explained, out, s),
@@ -87,7 +87,7 @@ fn decide(piece: &[u8], f: Front, l: Looked, explained: bool, out: &mut [u8], s:
 }
 
 // The two parts of a turn.
-fn put_in(m: Move) -> Put
+fn put_in(m: Move) -> Change
     ensures { λ r. ⌜ r ≡ m .put ⌝ }
 {
     m.put

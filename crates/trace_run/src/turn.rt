@@ -4,7 +4,7 @@ ghost use lib.ListN.{length};
 ghost use Rattle.trace_lines.specs.Notices.{faultLine};
 ghost use Rattle.trace_run.specs.Turns.{moveTo, onceWritten, faultMove, Printed};
 use memory::Wrote;
-use table::plan::Put;
+use table::plan::Change;
 use trace::Fault;
 use trace_lines::notices::write_fault;
 
@@ -19,11 +19,11 @@ pub struct Stand {
 
 // One turn of a run: what is put into the table, and where the run then stands.
 pub struct Move {
-    pub put: Put,
+    pub put: Change,
     pub stand: Stand,
 }
 
-pub(crate) fn moves(put: Put, used: usize, wrote: usize, ended: bool, more: bool) -> Move
+pub(crate) fn moves(put: Change, used: usize, wrote: usize, ended: bool, more: bool) -> Move
     ensures { λ r. ⌜ r ≡ moveTo put used wrote ended more ⌝ }
 {
     Move {
@@ -38,13 +38,20 @@ pub(crate) fn moves(put: Put, used: usize, wrote: usize, ended: bool, more: bool
 }
 
 // A text that was written has its turn; one that had no room stops the run where it stands.
-pub(crate) fn once_written(w: Wrote, put: Put, used: usize, ended: bool, more: bool, s: Stand) -> Move
+pub(crate) fn once_written(
+    w: Wrote,
+    put: Change,
+    used: usize,
+    ended: bool,
+    more: bool,
+    s: Stand,
+) -> Move
     ensures { λ r. ⌜ r ≡ onceWritten w put used ended more s ⌝ }
 {
     let i = s.used;
     let k = s.wrote;
     match w {
-        Wrote::Refused(_) => moves(Put::Nothing, i, k, false, false),
+        Wrote::Refused(_) => moves(Change::Nothing, i, k, false, false),
         Wrote::To(end) => moves(put, used, end, ended, more),
     }
 }
@@ -56,5 +63,5 @@ pub(crate) fn fault_turn(x: Fault, out: &mut [u8], s: Stand) -> Move
     let i = s.used;
     let k = s.wrote;
     let w = write_fault(out, k, x);
-    once_written(w, Put::Nothing, i, true, false, s)
+    once_written(w, Change::Nothing, i, true, false, s)
 }

@@ -1,7 +1,7 @@
 -- What is written for messages of real calls, computed.
 use mathlib.Core.Path.{refl}
 use Rattle.flow_meter.specs.Meter.{emptyOf, meterFitsOf, grantedOf, refilledOf, tickedOf}
-use Rattle.flow_meter.specs.Passage.{countedOf, spentOf, markedOf, underThreeOf, passageOf}
+use Rattle.flow_meter.specs.Passage.{countedOf, paidOf, markedOf, underThreeOf, passageOf}
 use Rattle.user_element.specs.Element.{wellFormedOf, seenOf, goesOutOf}
 use Rattle.rights.specs.Rights.{rightsFitOf, referenceFitsOf, noRights}
 use Rattle.services.specs.Standing.{remainsOf, noServices}
@@ -30,7 +30,7 @@ use Rattle.memory.specs.Room.{placed, wroteOf, leftOf}
 use Rattle.elements.specs.Elements.{then, elements, counted}
 use Rattle.message_types.specs.Kind.{kindOf}
 use Rattle.elements.specs.Single.{singleOf}
-use Rattle.elements.specs.Meaning.{firstSingle, firstCause, firstPlace, components, readingOf, takenOf}
+use Rattle.elements.specs.Meaning.{firstSingle, firstCause, firstPlace, components, readingOf, takenFrom}
 use Rattle.message.specs.Reading.{headedOf, readOf}
 use Rattle.message.specs.Parts.{userUserOf}
 use Rattle.user_element.specs.Writable.{elementFitsOf}
@@ -39,5 +39,5 @@ use Rattle.writer.specs.Writing.{frontOctets, messageOctets}
 use Rattle.wire_promises.specs.Samples.{Samples}
 
 pub samples : Samples
-unfolding emptyOf meterFitsOf grantedOf countedOf spentOf markedOf underThreeOf passageOf wellFormedOf seenOf goesOutOf rightsFitOf referenceFitsOf remainsOf firstStandingOf standingsOf lacksOf passedRequestsOf networkRefusalsOf failedOf settlesOf tellsOf declinesOf silence nobodyAsks sayingOf bareOf congestionOf informsOf onlyIfOf noRights noServices emptyMeters freshCall fieldsFitOf soundOf inPhaseOf barOf refusedOf heardOf replyOf setupPhaseOf filledOf toCallerOf toCalledOf setupCarriesOf proceedsOf setupOf grantsOf answeredCallOf goesOnOf clearsOf alertingFatesOf connectFatesOf answeredOf alertingOf connectOf metersOf informationPassageOf carriedOf withElementOf informationOf refilledOf tickedOf toRequestOf toAnswerOf silentAnswers closingFacilitiesOf closedCallOf passedOnOf disconnectOf facilityVerdictOf facilityCallOf aboutThreeOf passesFacilityOf facilityOf tickedMetersOf refillsOf readyOf runsOf passesTickOf tickOf notAnEventOf causeOf size stand spells filled serviceOf wishOf refusalOf readAs invokeOf resultOf errorOf componentOf placed wroteOf leftOf then elements counted kindOf singleOf firstSingle firstCause firstPlace components readingOf takenOf headedOf readOf userUserOf frontOctets messageOctets elementFitsOf messageFits
+unfolding emptyOf meterFitsOf grantedOf countedOf paidOf markedOf underThreeOf passageOf wellFormedOf seenOf goesOutOf rightsFitOf referenceFitsOf remainsOf firstStandingOf standingsOf lacksOf passedRequestsOf networkRefusalsOf failedOf settlesOf tellsOf declinesOf silence nobodyAsks sayingOf bareOf congestionOf informsOf onlyIfOf noRights noServices emptyMeters freshCall fieldsFitOf soundOf inPhaseOf barOf refusedOf heardOf replyOf setupPhaseOf filledOf toCallerOf toCalledOf setupCarriesOf proceedsOf setupOf grantsOf answeredCallOf goesOnOf clearsOf alertingFatesOf connectFatesOf answeredOf alertingOf connectOf metersOf informationPassageOf carriedOf withElementOf informationOf refilledOf tickedOf toRequestOf toAnswerOf silentAnswers closingFacilitiesOf closedCallOf passedOnOf disconnectOf facilityVerdictOf facilityCallOf aboutThreeOf passesFacilityOf facilityOf tickedMetersOf refillsOf readyOf runsOf passesTickOf tickOf notAnEventOf causeOf size stand spells filled serviceOf wishOf refusalOf readAs invokeOf resultOf errorOf componentOf placed wroteOf leftOf then elements counted kindOf singleOf firstSingle firstCause firstPlace components readingOf takenFrom headedOf readOf userUserOf frontOctets messageOctets elementFitsOf messageFits
 samples = (refl, refl, (refl, refl, (refl, refl, (refl, refl, (refl, refl, (refl, refl, (refl, refl, tt)))))))

@@ -44,7 +44,7 @@ use Rattle.setup_rules.specs.Requests.{lacksOf, toCallerOf, toCalledOf}
 use Rattle.answering_rules.specs.Consequences.{failedOf}
 use Rattle.sent.specs.Message.{sayingOf, bareOf, congestionOf, informsOf, onlyIfOf}
 use Rattle.information_rules.specs.Passing.{passesOf, marksOf}
-use Rattle.call.specs.Answering.{goesOnOf, clearsOf, outcomeOf, answeredOf, alertingOf, connectOf}
+use Rattle.call.specs.Answering.{goesOnOf, clearsOf, answeringOf, answeredOf, alertingOf, connectOf}
 use Rattle.call.specs.Disconnect.{passedOnOf, disconnectOf, endsOf, releaseCompleteOf}
 use Rattle.facility_rules.specs.Telling.{aboutThreeOf}
 use Rattle.call.specs.Facility.{passesFacilityOf, facilityOf}
@@ -162,7 +162,7 @@ module _ (limit : ℕ) (most : limit ≤ 131) where
         called = by-cond (Sends limit) (lacksOf rights q) (λ _. tt) (λ _. saying-sends _ _ _ _ refl tt);
       }
 
-  outcome-speaks : (c : Call) (kind : Kind) (next : Phase) (f : Fates) (seen : Seen) (x : Cause) → SingleIn kind Single.Absent → CauseIn x → Speaks limit (outcomeOf c kind next f seen x)
+  outcome-speaks : (c : Call) (kind : Kind) (next : Phase) (f : Fates) (seen : Seen) (x : Cause) → SingleIn kind Single.Absent → CauseIn x → Speaks limit (answeringOf c kind next f seen x)
   unfolding goesOnOf clearsOf bareOf
   outcome-speaks c kind next f seen Cause.Absent s k = record { calling = saying-sends _ _ _ _ s tt; called = tt }
   outcome-speaks c kind next f seen (Cause.Value n) s k =

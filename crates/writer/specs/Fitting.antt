@@ -7,7 +7,9 @@ use Rattle.user_element.specs.Writable.{elementFitsOf}
 use Rattle.cause.specs.declared.Cause.{Cause}
 use Rattle.cause.specs.Element.{causeFits}
 use Rattle.facility.specs.Facility.{componentFits}
+use Rattle.message_types.specs.declared.Class.{Class}
 use Rattle.message_types.specs.declared.Kind.{Kind}
+use Rattle.message_types.specs.Kind.{classOf}
 use Rattle.message_fields.specs.declared.Width.{Width}
 use Rattle.message_fields.specs.declared.Single.{Single}
 use Rattle.message_fields.specs.declared.Facilities.{Facilities}
@@ -39,16 +41,13 @@ levelFits Single.NotReady = true
 
 -- "More data belongs to USER INFORMATION only, and a congestion level to CONGESTION CONTROL, where the writer demands it;
 -- elsewhere the writer gives 7"
+abbrev pub classFits : Class → Single → Bool
+classFits Class.Plain s = plainFits s
+classFits Class.Information s = moreFits s
+classFits Class.Congestion s = levelFits s
+
 abbrev pub singleFits : Kind → Single → Bool
-singleFits Kind.Alerting s = plainFits s
-singleFits Kind.CallProceeding s = plainFits s
-singleFits Kind.Setup s = plainFits s
-singleFits Kind.Connect s = plainFits s
-singleFits Kind.UserInformation s = moreFits s
-singleFits Kind.Disconnect s = plainFits s
-singleFits Kind.ReleaseComplete s = plainFits s
-singleFits Kind.Facility s = plainFits s
-singleFits Kind.CongestionControl s = levelFits s
+singleFits k s = classFits (classOf k) s
 
 abbrev pub causesFit : Cause → Bool
 causesFit Cause.Absent = true

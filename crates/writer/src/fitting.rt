@@ -7,7 +7,9 @@ use message_fields::Facilities;
 use message_fields::Message;
 use message_fields::Single;
 use message_fields::Width;
+use message_types::Class;
 use message_types::Kind;
+use message_types::class_of;
 use user_element::writable::element_fits;
 
 // References 0 to 127 or to 32767, by length.
@@ -57,16 +59,10 @@ fn level_fits(s: Single) -> bool
 fn single_fits(k: Kind, s: Single) -> bool
     ensures { λ t. ⌜ t ≡ singleFits k s ⌝ }
 {
-    match k {
-        Kind::UserInformation => more_fits(s),
-        Kind::CongestionControl => level_fits(s),
-        Kind::Alerting
-        | Kind::CallProceeding
-        | Kind::Setup
-        | Kind::Connect
-        | Kind::Disconnect
-        | Kind::ReleaseComplete
-        | Kind::Facility => plain_fits(s),
+    match class_of(k) {
+        Class::Plain => plain_fits(s),
+        Class::Information => more_fits(s),
+        Class::Congestion => level_fits(s),
     }
 }
 

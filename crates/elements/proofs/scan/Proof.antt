@@ -7,14 +7,14 @@ use lib.ListN.{length, drop}
 use borrow.Author.Tests.{not-true, not-false}
 use Rattle.elements.specs.Elements.{elements, Ended}
 use Rattle.elements.proofs.Turns.{to, is-cut, goingOn, locked, at-first, on-pass, on-lock, on-shift, on-note, out-cut, out-end, out-short, out-whole}
-use Rattle.elements.specs.Meaning.{takenOf}
+use Rattle.elements.specs.Meaning.{takenFrom}
 use borrow.Author.Needs.{needs}
 use Rattle.elements.proofs.scan.Statement.{statement}
 use Rattle.elements.proofs.scan.Tie as tie
 
 abbrev Inv-scan : tie.InvT-scan
 Inv-scan m start h i₀ pass₀ f₀ i pass f =
-    goingOn h pass f (elements i 0 (drop i m)) ≡ takenOf h (elements start 0 (drop start m))
+    goingOn h pass f (elements i 0 (drop i m)) ≡ takenFrom h (elements start 0 (drop start m))
 
 abbrev μ-scan : tie.MeasureT-scan
 μ-scan m start h i₀ pass₀ f₀ i pass f = length m - i
@@ -24,7 +24,7 @@ ended : (p : tie.After-e Inv-scan μ-scan) → Ended (p .before .before .before 
 ended p = to _ _ _ _ (p .e .given .1) (p .before .before .end-of .ensures)
 
 -- past the scan only the lengths count, whichever way it was left
-left : (p : tie.Left-scan Inv-scan μ-scan) → let a = p .before .before .before .args in locked (a .h) (p .before .scan .f) (elements (p .scan-test .i) 0 (drop (p .scan-test .i) (a .m .now))) ≡ takenOf (a .h) (elements (a .start) 0 (drop (a .start) (a .m .now)))
+left : (p : tie.Left-scan Inv-scan μ-scan) → let a = p .before .before .before .args in locked (a .h) (p .before .scan .f) (elements (p .scan-test .i) 0 (drop (p .scan-test .i) (a .m .now))) ≡ takenFrom (a .h) (elements (a .start) 0 (drop (a .start) (a .m .now)))
 left p =
     ⊎-elim
     (λ w. rw (w .1) (out-end _ _ _ _ _ (w .0 .left) ∙ p .before .scan .inv))

@@ -12,4 +12,4 @@ led h p = two h (octet (omega arith)) p
 
 -- two pieces, and a `,` between them
 pub parted : {m k at i r : ℕ} {p q l l₁ l' : List ℕ} → at + (m + (1 + k)) ≤ length l → Piece m at p l l₁ i → Piece k (i + 1) q (set l₁ i 44) l' r → Piece (m + (1 + k)) at (p ++ (44 ∷ q)) l l' r
-parted {l = l} h p q = two h p (led (omega (arith, p .end, p .small, piece-length {l = l} (omega arith) p)) q)
+parted {l = l} h p q = two h p (led (omega (arith, p .put .end, p .small, piece-length {l = l} (omega arith) p)) q)

@@ -27,10 +27,10 @@ put-columns-requires : tie.Need-put-columns-requires
 put-columns-requires c κs = room-left (search needs) (at-most-twenty _ (omega arith)) (c .before .before .before .write-decimal .ensures) (c .before .end-of .ensures)
 
 array-write-line : tie.Need-array-write-line
-array-write-line c = let p = laid-out (search needs) (at-most-twenty _ (omega arith)) (c .before .before .before .before .before .write-decimal .ensures) (c .before .before .before .end-of .ensures) (c .before .put-columns .ensures) in omega (arith, p .end, p .small)
+array-write-line c = let p = laid-out (search needs) (at-most-twenty _ (omega arith)) (c .before .before .before .before .before .write-decimal .ensures) (c .before .before .before .end-of .ensures) (c .before .put-columns .ensures) in omega (arith, p .put .end, p .small)
 
 add-write-octets : tie.Need-add-write-octets
-add-write-octets c = let p = laid-out (search needs) (at-most-twenty _ (omega arith)) (c .before .before .before .before .before .before .write-decimal .ensures) (c .before .before .before .before .end-of .ensures) (c .before .before .put-columns .ensures) in record { fits = omega (arith, p .end, p .small) }
+add-write-octets c = let p = laid-out (search needs) (at-most-twenty _ (omega arith)) (c .before .before .before .before .before .before .write-decimal .ensures) (c .before .before .before .before .end-of .ensures) (c .before .before .put-columns .ensures) in record { fits = omega (arith, p .put .end, p .small) }
 
 sub-write-octets : tie.Need-sub-write-octets
 sub-write-octets c = search needs
@@ -39,7 +39,7 @@ part-write-octets-start : tie.Need-part-write-octets-start
 part-write-octets-start c = search needs
 
 part-write-octets-end : tie.Need-part-write-octets-end
-part-write-octets-end c = let p = laid-out (search needs) (at-most-twenty _ (omega arith)) (c .before .before .before .before .before .before .before .write-decimal .ensures) (c .before .before .before .before .before .end-of .ensures) (c .before .before .before .put-columns .ensures) in simp length-set (omega (arith, p .end, p .small))
+part-write-octets-end c = let p = laid-out (search needs) (at-most-twenty _ (omega arith)) (c .before .before .before .before .before .before .before .write-decimal .ensures) (c .before .before .before .before .before .end-of .ensures) (c .before .before .before .put-columns .ensures) in simp length-set (omega (arith, p .put .end, p .small))
 
 write-octets-requires : tie.Need-write-octets-requires
 write-octets-requires c κs = search needs

@@ -46,10 +46,10 @@ use Rattle.phases.specs.Phase.{liveOf}
 use Rattle.call.proofs.Call as T
 use Rattle.call.proofs.Call.Laws as T′
 use Rattle.table.specs.declared.sought.Sought.{Sought}
-use Rattle.table.specs.Look.{laterOf, faultOf}
+use Rattle.table.specs.Look.{searchFromOf, faultOf}
 use Rattle.table.specs.First.{firstFrom}
 use Rattle.table.specs.Table.{heldIn, callsSound}
-use Rattle.table.specs.declared.choice.Found.{Found}
+use Rattle.table.specs.declared.choice.Spot.{Spot}
 use Rattle.table.proofs.Arms.{skips-to}
 use Rattle.table.proofs.Dropped.{Leaving, leaves-dropped, meets-dropped}
 use Rattle.table.proofs.Ends.{full, dying, forgets, frees-all}
@@ -57,8 +57,8 @@ use Rattle.flow_meter.proofs.Plainly.{pre-plain, calls-plain}
 use Rattle.table.proofs.Lent.{val, slice, shown}
 use Rattle.table.proofs.Asked.{uval, sval, AtPlace, FirstFrom, calls-place, calls-first}
 use Rattle.table.proofs.Searched.{alone-at, sounds, fault-says, stops, goes-on}
-use Rattle.table.proofs.choice.Found as U
-use Rattle.table.proofs.choice.Found.Laws as U′
+use Rattle.table.proofs.choice.Spot as U
+use Rattle.table.proofs.choice.Spot.Laws as U′
 use Rattle.table.proofs.sought.Sought as S
 use Rattle.table.proofs.sought.Sought.Laws as S′
 use Rattle.table.proofs.call_at.Symbol as g-def
@@ -115,10 +115,10 @@ module _ {M : Type 1} (𝓤 : URA M) (H : Heap 𝓤) (A : Atoms 𝓤) (W : Given
   goes-m : (c : Call) (j : ℕ) → Is T.the-row c (val c ∷ []) → j < 2 ^ 64 → n < 2 ^ 64 → ent 𝓤 (emp 𝓤) (L 𝓤 H A at-mem run .pre (to-m c j, tt))
   goes-m c j is gj gn = pre-plain 𝓤 H A m.ended (m.clauses 𝓤 H A at-mem run) (to-m c j) tt (id⊢ 𝓤 (emp 𝓤)) (LL.makes T.the-type T′.the-plain 𝓤 H A, (uint-makes 𝓤 H A W w64, (uint-makes 𝓤 H A W w64, tt))) (is, ((refl, gj), ((refl, gn), tt))) (id⊢ 𝓤 (emp 𝓤))
 
-  abbrev to-p : Call → Found → Bound 𝓤 H A p.signature
+  abbrev to-p : Call → Spot → Bound 𝓤 H A p.signature
   to-p c r = (tt, tt, tt, (c, (r, tt)), (val c ∷ [], (uval r ∷ [], tt)))
 
-  goes-p : (c : Call) (r : Found) → Is T.the-row c (val c ∷ []) → Is U.the-row r (uval r ∷ []) → ent 𝓤 (emp 𝓤) (P 𝓤 H A at-mem run .pre (to-p c r, tt))
+  goes-p : (c : Call) (r : Spot) → Is T.the-row c (val c ∷ []) → Is U.the-row r (uval r ∷ []) → ent 𝓤 (emp 𝓤) (P 𝓤 H A at-mem run .pre (to-p c r, tt))
   goes-p c r is isr = pre-plain 𝓤 H A p.ended (p.clauses 𝓤 H A at-mem run) (to-p c r) tt (id⊢ 𝓤 (emp 𝓤)) (LL.makes T.the-type T′.the-plain 𝓤 H A, (LE.makes U.the-type U′.the-plain 𝓤 H A, tt)) (is, (isr, tt)) (id⊢ 𝓤 (emp 𝓤))
 
   -- ---- the loop's index: where it is, and what is known there. It goes down by how much is left
@@ -164,7 +164,7 @@ module _ {M : Type 1} (𝓤 : URA M) (H : Heap 𝓤) (A : Atoms 𝓤) (W : Given
           land ! (from ! (stop !)) (init ! 3 refl (LL.lawful T.the-type T′.the-laws 𝓤 H A W .typed c _ isc .0)) $
           assigns ! (bin ! (load ! (from ! (stop !)) (look ! 2 refl)) (lit ! tt) (record { fits = next-fits })) (from ! (stop !)) (init ! 4 refl (tt, record { fits = next-fits })) $
           assigns ! (of-opd ! (load ! (from ! (fld ! refl (stop !))) (look-in ! 11 (sub ! 1 refl (whole !))))) (from ! (stop !)) (store ! 7 refl (tt, record { fits = room .0 })) $
-          calls-plain ! (fmOf 𝓤 H (W .laws) 𝓣) m.ended (m.clauses 𝓤 H A at-mem run) known-m (to-m c (h .0 + 1)) tt (goes-m c (h .0 + 1) isc next-fits (room .0)) (λ j. j ≡ laterOf c (h .0 + 1) n) (λ j ws. id⊢ 𝓤 _) (vint w64) (uint-tells w64)
+          calls-plain ! (fmOf 𝓤 H (W .laws) 𝓣) m.ended (m.clauses 𝓤 H A at-mem run) known-m (to-m c (h .0 + 1)) tt (goes-m c (h .0 + 1) isc next-fits (room .0)) (λ j. j ≡ searchFromOf c (h .0 + 1) n) (λ j ws. id⊢ 𝓤 _) (vint w64) (uint-tells w64)
           (and-then ! (load ! (from ! (stop !)) (look ! 4 refl)) (and-then ! (load ! (from ! (stop !)) (look ! 5 refl)) (and-then ! (load ! (from ! (stop !)) (look ! 8 refl)) (no-more !)))) (λ j ej isj.
           land ! (from ! (stop !)) (init ! 5 refl (tt, record { fits = isj .1 })) $
           assigns ! (agg ! (and-then ! (lit ! tt) (and-then ! (load ! (from ! (fld ! refl (stop !))) (look-in ! 3 (sub ! 0 refl (whole !)))) (no-more !)))) (from ! (stop !)) (init ! 9 refl (LE.lawful S.the-type S′.the-laws 𝓤 H A W tt .typed (Sought.Live (c .reference)) _ (asked c isc) .0)) $
@@ -200,15 +200,15 @@ module _ {M : Type 1} (𝓤 : URA M) (H : Heap 𝓤) (A : Atoms 𝓤) (W : Given
           asked c is = LE.owes S.the-type S′.the-laws (Sought.Live (c .reference)) ((refl, LL.owed T.the-type T′.the-laws c _ is .0 .1), tt)
 
           -- what `at_fault` says of the record
-          said : (t : Bool) (c : Call) (j : ℕ) (r : Found) → c ≡ getD ys (h .0) freshCall → j ≡ laterOf c (h .0 + 1) n → r ≡ firstFrom (dropL j ys) j (Sought.Live (c .reference)) → t ≡ faultOf c r → t ≡ not (alone-at ys (h .0))
+          said : (t : Bool) (c : Call) (j : ℕ) (r : Spot) → c ≡ getD ys (h .0) freshCall → j ≡ searchFromOf c (h .0 + 1) n → r ≡ firstFrom (dropL j ys) j (Sought.Live (c .reference)) → t ≡ faultOf c r → t ≡ not (alone-at ys (h .0))
           said t c j r ec ej er et =
               et ∙ ap (faultOf c) (er ∙ ap (λ (m : ℕ). firstFrom (dropL m ys) m (Sought.Live (c .reference))) ej) ∙ fault-says ys c (h .0)
               ∙ ap (λ (d : Call). not (soundOf d && not (liveOf (d .phase) && heldIn (dropL (h .0 + 1) ys) (d .reference)))) ec
 
-          there : (t : Bool) (c : Call) (j : ℕ) (r : Found) → c ≡ getD ys (h .0) freshCall → j ≡ laterOf c (h .0 + 1) n → r ≡ firstFrom (dropL j ys) j (Sought.Live (c .reference)) → t ≡ faultOf c r → Holds t → false ≡ callsSound ys
+          there : (t : Bool) (c : Call) (j : ℕ) (r : Spot) → c ≡ getD ys (h .0) freshCall → j ≡ searchFromOf c (h .0 + 1) n → r ≡ firstFrom (dropL j ys) j (Sought.Live (c .reference)) → t ≡ faultOf c r → Holds t → false ≡ callsSound ys
           there t c j r ec ej er et yes′ = sym (stops (alone-at ys (h .0)) (callsSound (dropL (h .0 + 1) ys)) (subst Holds (said t c j r ec ej er et) yes′)) ∙ sym (sounds ys (h .0) small) ∙ h .1
 
-          onward : (t : Bool) (c : Call) (j : ℕ) (r : Found) → c ≡ getD ys (h .0) freshCall → j ≡ laterOf c (h .0 + 1) n → r ≡ firstFrom (dropL j ys) j (Sought.Live (c .reference)) → t ≡ faultOf c r → Holds (not t) → callsSound (dropL (h .0 + 1) ys) ≡ callsSound ys
+          onward : (t : Bool) (c : Call) (j : ℕ) (r : Spot) → c ≡ getD ys (h .0) freshCall → j ≡ searchFromOf c (h .0 + 1) n → r ≡ firstFrom (dropL j ys) j (Sought.Live (c .reference)) → t ≡ faultOf c r → Holds (not t) → callsSound (dropL (h .0 + 1) ys) ≡ callsSound ys
           onward t c j r ec ej er et no′ =
               sym (goes-on (alone-at ys (h .0)) (callsSound (dropL (h .0 + 1) ys)) (subst (λ (u : Bool). Holds (not u)) (said t c j r ec ej er et) no′)) ∙ sym (sounds ys (h .0) small) ∙ h .1
 

@@ -47,8 +47,8 @@ use Rattle.call.proofs.Call.Laws as T′
 use Rattle.table.specs.declared.sought.Sought.{Sought}
 use Rattle.table.specs.Look.{meetsOf}
 use Rattle.table.specs.First.{firstFrom}
-use Rattle.table.specs.declared.choice.Found.{Found}
-use Rattle.table.specs.declared.choice.Found.the-variants.{At, Nothing}
+use Rattle.table.specs.declared.choice.Spot.{Spot}
+use Rattle.table.specs.declared.choice.Spot.the-variants.{At, Nothing}
 use Rattle.table.proofs.Arms.{skips-to}
 use Rattle.table.proofs.Dropped.{Leaving, leaves-dropped, meets-dropped}
 use Rattle.table.proofs.Ends.{full, dying, forgets, frees-all}
@@ -56,8 +56,8 @@ use Rattle.flow_meter.proofs.Plainly.{pre-plain, calls-plain}
 use Rattle.table.proofs.Lent.{val, slice, shown}
 use Rattle.table.proofs.Asked.{uval, sval, AtPlace, calls-place}
 use Rattle.table.proofs.Along.{one-more, dropped}
-use Rattle.table.proofs.choice.Found as U
-use Rattle.table.proofs.choice.Found.Laws as U′
+use Rattle.table.proofs.choice.Spot as U
+use Rattle.table.proofs.choice.Spot.Laws as U′
 use Rattle.table.proofs.sought.Sought as S
 use Rattle.table.proofs.sought.Sought.Laws as S′
 use Rattle.table.proofs.call_at.Symbol as g-def
@@ -77,11 +77,11 @@ use Rattle.table.proofs.first_from.Code.Mir as body
 finds : (l : List Call) (k : Sought) (i : ℕ) → i < length l → firstFrom (dropL i l) i k ≡ cond (meetsOf (getD l i freshCall) k) (At i) (firstFrom (dropL (i + 1) l) (i + 1) k)
 finds l k i h = ap (λ (cs : List Call). firstFrom cs i k) (dropped l i h) ∙ ap (λ (j : ℕ). cond (meetsOf (getD l i freshCall) k) (At i) (firstFrom (dropL j l) (i + 1) k)) (sym (one-more i))
 
-hit : (t : Bool) (x y : Found) → Holds t → cond t x y ≡ x
+hit : (t : Bool) (x y : Spot) → Holds t → cond t x y ≡ x
 hit true x y h = refl
 hit false x y h = absurd h
 
-miss : (t : Bool) (x y : Found) → Holds (not t) → cond t x y ≡ y
+miss : (t : Bool) (x y : Spot) → Holds (not t) → cond t x y ≡ y
 miss true x y h = absurd h
 miss false x y h = refl
 
@@ -106,7 +106,7 @@ module _ {M : Type 1} (𝓤 : URA M) (H : Heap 𝓤) (A : Atoms 𝓤) (W : Given
   abbrev Post : Val → SProp 𝓤
   Post = Leaving 𝓤 H A W f.ended (f.clauses 𝓤 H A at-mem run) (y, tt)
 
-  exits : (r : Found) → r ≡ firstFrom (dropL st ys) st k → Is U.the-row r (uval r ∷ []) → ent 𝓤 (sep 𝓤 (A .lft κ q) (emp 𝓤)) (Post (uval r))
+  exits : (r : Spot) → r ≡ firstFrom (dropL st ys) st k → Is U.the-row r (uval r ∷ []) → ent 𝓤 (sep 𝓤 (A .lft κ q) (emp 𝓤)) (Post (uval r))
   exits r e is = leaves-dropped 𝓤 H A W f.ended (f.clauses 𝓤 H A at-mem run) (y, tt) (uval r) r (tt, (tt, (tt, tt))) (LE.makes U.the-type U′.the-plain 𝓤 H A r _ is) (factI 𝓤 _ (emp 𝓤) e)
 
   -- what the triple of `meets` binds outside

@@ -8,7 +8,7 @@ use Rattle.call.specs.declared.Call.{Call}
 use Rattle.event.specs.declared.Event.{Event}
 use Rattle.call.specs.Sound.{freshCall}
 use Rattle.table.specs.declared.choice.Choice.{Choice}
-use Rattle.table.specs.declared.plan.Put.{Put}
+use Rattle.table.specs.declared.plan.Change.{Change}
 use Rattle.table.specs.Chosen.{chosenOf}
 use Rattle.table.specs.Halves.{lookAt, lookOf, committed}
 use Rattle.table.specs.Plan.{rowOf, recordOf}
@@ -20,14 +20,14 @@ beyond [] i c h = refl
 beyond (d ∷ l) zero c h = absurd (not-suc-le-zero h)
 beyond (d ∷ l) (suc i) c h = ap (λ (k : List Call). d ∷ k) (beyond l i c (le-of-suc-le-suc h))
 
-put-is : (l : List Call) (p : Put) → set l (rowOf p (length l)) (recordOf p) ≡ committed l p
-put-is l (Put.At i c) = refl
-put-is l Put.Nothing = beyond l (length l) freshCall (le-refl (length l))
+put-is : (l : List Call) (p : Change) → set l (rowOf p (length l)) (recordOf p) ≡ committed l p
+put-is l (Change.At i c) = refl
+put-is l Change.Nothing = beyond l (length l) freshCall (le-refl (length l))
 
-pub puts : (l : List Call) (p : Put) (i : ℕ) (c : Call) → c ≡ recordOf p → i ≡ rowOf p (length l) → set l i c ≡ committed l p
+pub puts : (l : List Call) (p : Change) (i : ℕ) (c : Call) → c ≡ recordOf p → i ≡ rowOf p (length l) → set l i c ≡ committed l p
 puts l p i c ec ei = (λ j. set l (ei j) (ec j)) ∙ put-is l p
 
-pub passes : (l : List Call) (p : Put) (i : ℕ) (c : Call) → c ≡ recordOf p → i ≡ rowOf p (length l) → length l ≤ i → l ≡ committed l p
+pub passes : (l : List Call) (p : Change) (i : ℕ) (c : Call) → c ≡ recordOf p → i ≡ rowOf p (length l) → length l ≤ i → l ≡ committed l p
 passes l p i c ec ei h = sym (beyond l i c h) ∙ puts l p i c ec ei
 
 told-at : (l : List Call) (c : Choice) (e : Event) (es : List ℕ) → planOf (lookAt l c) e es .outcome ≡ outcomeAt l c e es

@@ -1,4 +1,4 @@
-use Rattle.trace.specs.Reading.{referenceOf}
+use Rattle.trace.specs.Reading.{recordReferenceOf}
 use borrow.Author.Needs.{needs}
 use Rattle.trace.proofs.reference.Statement.{statement}
 use Rattle.trace.proofs.reference.Tie as tie
@@ -25,7 +25,7 @@ add-result : tie.Need-add-result
 add-result c = search needs
 
 returns : tie.Need-returns
-unfolding referenceOf
+unfolding recordReferenceOf
 returns c = simp (c .wide162 .ensures .0, c .before .before .wide16 .ensures .0)
 
 pub reference-spec : {M : Type 1} → statement M

@@ -7,9 +7,10 @@ use lib.ListN.{length, take, drop}
 use lib.Seq.{length-take-le, take-at, drop-append-add}
 use Rattle.memory.specs.Room.{placed}
 use Rattle.text.specs.Pieces.{Piece}
-use Rattle.text.proofs.Pieced.{spelled, two, no-piece}
+use Rattle.text.proofs.Pieced.{spelled, two}
 use Rattle.text.specs.Columns.{column}
 use Rattle.trace_lines.specs.Items.{commas, joined}
+use Rattle.memory.proofs.Pieces.{no-put}
 
 commas-append : (a b : List (List ℕ)) → commas (a ++ b) ≡ commas a ++ commas b
 unfolding commas
@@ -41,17 +42,16 @@ anew at q l h = simp append-assoc (anew-first at (q ++ drop (at + length (44 ∷
 pub bare-column : {at e r : ℕ} {l l₁ l' : List ℕ} (is : List (List ℕ)) → Piece 79 at (commas is) l l₁ e → e ≡ at → Piece 5 at (32 ∷ 98 ∷ 97 ∷ 114 ∷ 101 ∷ []) l₁ l' r → Piece 79 at (column (joined is)) l l' r
 unfolding commas joined
 bare-column {at} {e} {r} {l} {l₁} {l'} [] p h q =
-    let same : l₁ ≡ l = p .octets ∙ sym (no-piece {at = at} {l = l} .octets) in
-    record { end = q .end; octets = q .octets ∙ rw same; small = omega arith }
-bare-column (i ∷ is) p h q = absurd (omega (arith, p .end))
+    let same : l₁ ≡ l = p .put .octets ∙ sym (no-put {at = at} {l = l} .octets) in
+    record { put = record { end = q .put .end; octets = q .put .octets ∙ rw same }; small = omega arith }
+bare-column (i ∷ is) p h q = absurd (omega (arith, p .put .end))
 
 -- one that has some: the space takes the place of the first `,`
 pub items-column : {at e r : ℕ} {l l₁ l' : List ℕ} (is : List (List ℕ)) → at + 79 ≤ length l → Piece 79 at (commas is) l l₁ e → (e ≡ at → ⊥) → Piece 1 at (32 ∷ []) l₁ l' r → Piece 79 at (column (joined is)) l l' e
 unfolding commas joined
-items-column [] k p h q = absurd (h (omega (arith, p .end)))
+items-column [] k p h q = absurd (h (omega (arith, p .put .end)))
 items-column {at} {e} {r} {l} {l₁} {l'} (i ∷ is) k p h q =
     record {
-      end = p .end;
-      octets = q .octets ∙ rw (p .octets) (anew at (i ++ commas is) l (omega arith));
+      put = record { end = p .put .end; octets = q .put .octets ∙ rw (p .put .octets) (anew at (i ++ commas is) l (omega arith)) };
       small = p .small;
     }

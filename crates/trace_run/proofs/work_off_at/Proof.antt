@@ -50,13 +50,13 @@ use Rattle.event.proofs.Event as E
 use Rattle.event.proofs.Event.Laws as E′
 use Rattle.table.specs.Halves.{lookOf, committed}
 use Rattle.table.specs.declared.plan.Looked.{Looked}
-use Rattle.table.specs.declared.plan.Put.{Put}
+use Rattle.table.specs.declared.plan.Change.{Change}
 use Rattle.table.proofs.step.Again.{LentAgain}
 use Rattle.table.proofs.step.Looks.{LentShared}
 use Rattle.table.proofs.plan.Looked as K
 use Rattle.table.proofs.plan.Looked.Laws as K′
-use Rattle.table.proofs.plan.Put as Q
-use Rattle.table.proofs.plan.Put.Laws as Q′
+use Rattle.table.proofs.plan.Change as Q
+use Rattle.table.proofs.plan.Change.Laws as Q′
 use Rattle.table.proofs.Ends.{full, forgets, frees-all}
 use Rattle.flow_meter.proofs.Plainly.{pre-plain, calls-lasts, calls-told, calls-plain, leaves}
 use Rattle.trace_run.specs.declared.front.Front.{Front}
@@ -137,7 +137,7 @@ kval = LE.val K.the-type K′.the-laws
 abbrev vval : Move → Val
 vval = LL.val O.the-type O′.the-laws
 
-abbrev qval : Put → Val
+abbrev qval : Change → Val
 qval = LE.val Q.the-type Q′.the-laws
 
 abbrev to-call : Ty
@@ -293,10 +293,10 @@ module _ {M : Type 1} (𝓤 : URA M) (H : Heap 𝓤) (A : Atoms 𝓤) (W : Given
       nothing ! $ owned ! S.the-row (Is S.the-row) (LL.makes S.the-type S′.the-plain 𝓤 H A) w _ isw $ fjoin ! $ move ! (2 ∷ 0 ∷ []) $ fjoin ! $ owned ! bool (Is bool) (bool-makes 𝓤 H A W) explained _ refl $ fjoin ! $
       owned ! K.the-row (Is K.the-row) (LE.makes K.the-type K′.the-plain 𝓤 H A) k _ isk $ fjoin ! $ owned ! F.the-row (Is F.the-row) (LE.makes F.the-type F′.the-plain 𝓤 H A) f _ isf $ fjoin ! $ move ! (1 ∷ 0 ∷ []) $ fjoin ! $ done !
 
-  abbrev to-cm : ℕ → GName → List Call → Put → Bound 𝓤 H A cm.signature
+  abbrev to-cm : ℕ → GName → List Call → Change → Bound 𝓤 H A cm.signature
   to-cm ν δ ts p = ((ν ∷ [], tt), (fullShare, tt), tt, (x δ ts, (p, tt)), (s ∷ [], (qval p ∷ [], tt)))
 
-  goes-cm : (ν : ℕ) (δ : GName) (ts : List Call) (p : Put) → Is Q.the-row p (qval p ∷ []) → ent 𝓤 (sep 𝓤 (A .lft (ν ∷ []) fullShare) (sem 𝓤 H A (MutSlice (named 0) (ν ∷ []) T.the-row .own (x δ ts) (s ∷ [])))) (Cm 𝓤 H A at-mem run .pre (to-cm ν δ ts p, tt))
+  goes-cm : (ν : ℕ) (δ : GName) (ts : List Call) (p : Change) → Is Q.the-row p (qval p ∷ []) → ent 𝓤 (sep 𝓤 (A .lft (ν ∷ []) fullShare) (sem 𝓤 H A (MutSlice (named 0) (ν ∷ []) T.the-row .own (x δ ts) (s ∷ [])))) (Cm 𝓤 H A at-mem run .pre (to-cm ν δ ts p, tt))
   goes-cm ν δ ts p is =
       qed W (‵ (flft (ν ∷ []) fullShare) ∷ ‵ (MutSlice (named 0) (ν ∷ []) T.the-row .own (x δ ts) (s ∷ [])) ∷ []) ∵ nothing ! $ owned ! Q.the-row (Is Q.the-row) (LE.makes Q.the-type Q′.the-plain 𝓤 H A) p _ is $ fjoin ! $
       move ! (2 ∷ 0 ∷ []) $ fjoin ! $ nothing ! $ move ! (2 ∷ 0 ∷ []) $ join ! $ join ! $ nothing ! $ move ! (1 ∷ 0 ∷ []) $ done !
@@ -394,7 +394,7 @@ module _ {M : Type 1} (𝓤 : URA M) (H : Heap 𝓤) (A : Atoms 𝓤) (W : Given
           within f ef = subst (λ (g : Front). h .stand .used + sizeIn g ≤ length es) (sym ef) (front-fits last es (h .stand .used) (h .kept .going e .going .within))
 
           onto : (f : Front) → f ≡ frontOf last (dropL (h .stand .used) es) → (r : Looked) → r ≡ lookOf (h .table) (referenceIn f) (eventIn f) → (m : Move) (os : List ℕ) → Moved explained f r (dropL (h .stand .used) es) (h .stand) (h .out) os m
-              → (p : Put) → p ≡ m .put → (ts : List Call) → ts ≡ committed (h .table) p → (w : Stand) → w ≡ m .stand → Is S.the-row w (sval w ∷ []) → (h′ : Hr) × ≺ h′ h
+              → (p : Change) → p ≡ m .put → (ts : List Call) → ts ≡ committed (h .table) p → (w : Stand) → w ≡ m .stand → Is S.the-row w (sval w ∷ []) → (h′ : Hr) × ≺ h′ h
           onto f ef r er m os em p ep ts et w ew isw =
               let on = turns-on explained last ys es zs (h .stand) (h .table) (h .out) (h .kept) e ef er em in (
                 record { stand = w; table = ts; out = os; kept = subst (λ (v : Stand). Kept explained last ys es zs v ts os) (sym ew) (subst (λ (l : List Call). Kept explained last ys es zs (m .stand) l os) (sym (et ∙ ap (committed (h .table)) ep)) (on .kept')); typed = isw },

@@ -1,4 +1,4 @@
-use Rattle.flow_meter.specs.Passage.{spentOf, markedOf, underThreeOf}
+use Rattle.flow_meter.specs.Passage.{paidOf, markedOf, underThreeOf}
 use borrow.Author.Tests.{le-ltb, lt-ltb}
 use borrow.Author.Needs.{needs}
 use Rattle.flow_meter.proofs.passage.under_three.Statement.{statement}
@@ -8,7 +8,7 @@ sub-m : tie.Need-sub-m
 sub-m c = search needs
 
 returns : tie.Need-returns
-unfolding underThreeOf spentOf
+unfolding underThreeOf paidOf
 returns c = simp (lt-ltb _ _ (c .before .if1 .taken))
 
 returns-2 : tie.Need-returns-2

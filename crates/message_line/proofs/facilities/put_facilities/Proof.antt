@@ -51,13 +51,13 @@ put-both-requires-2 : tie.Need-put-both-requires-2
 put-both-requires-2 c κs = simp length-set (omega arith)
 
 slice-write-buf-3 : tie.Need-slice-write-buf-3
-slice-write-buf-3 c = omega (arith, simp length-set at (c .before .buf3 .given), c .before .before .put-both2 .ensures .end, c .before .before .put-both2 .ensures .small)
+slice-write-buf-3 c = omega (arith, simp length-set at (c .before .buf3 .given), c .before .before .put-both2 .ensures .put .end, c .before .before .put-both2 .ensures .small)
 
 add-put-component-2 : tie.Need-add-put-component-2
 add-put-component-2 c = search needs
 
 put-component-requires-2 : tie.Need-put-component-requires-2
-put-component-requires-2 c κs = simp length-set (omega (arith, simp length-set at (c .before .before .buf3 .given), c .before .before .before .put-both2 .ensures .end, c .before .before .before .put-both2 .ensures .small))
+put-component-requires-2 c κs = simp length-set (omega (arith, simp length-set at (c .before .before .buf3 .given), c .before .before .before .put-both2 .ensures .put .end, c .before .before .before .put-both2 .ensures .small))
 
 same-length : tie.Need-same-length
 same-length c = simp length-set

@@ -21,7 +21,7 @@ same-length : tie.Need-same-length
 same-length c = search needs
 
 returns : tie.Need-returns
-returns c = let p = settled {most = 20} (omega arith) (at-most-twenty _ (omega arith)) (c .before .before .before .before .before .before .before .before .write-decimal .ensures) (c .before .before .before .before .before .end-of .ensures) in two (c .before .before .before .before .before .before .before .before .before .before .before .before .pre) p (settled (omega (arith, p .end, p .small)) (omega arith) (c .before .before .before .write-octets .ensures) (c .end-of2 .ensures))
+returns c = let p = settled {most = 20} (omega arith) (at-most-twenty _ (omega arith)) (c .before .before .before .before .before .before .before .before .write-decimal .ensures) (c .before .before .before .before .before .end-of .ensures) in two (c .before .before .before .before .before .before .before .before .before .before .before .before .pre) p (settled (omega (arith, p .put .end, p .small)) (omega arith) (c .before .before .before .write-octets .ensures) (c .end-of2 .ensures))
 
 pub put-invoke-spec : {M : Type 1} → statement M
 put-invoke-spec = tie.close (tie.spec write-decimal-requires end-of-requires write-octets-requires end-of-requires-2 same-length returns)

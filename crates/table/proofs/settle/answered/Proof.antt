@@ -1,10 +1,10 @@
-use Rattle.table.specs.Settle.{outcomeOf}
+use Rattle.table.specs.Settle.{heardOutcomeOf}
 use mathlib.Core.Path.{refl}
 use Rattle.table.proofs.settle.answered.Statement.{statement}
 use Rattle.table.proofs.settle.answered.Tie as tie
 
 returns : tie.Need-returns
-unfolding outcomeOf
+unfolding heardOutcomeOf
 returns c = refl
 
 pub answered-spec : {M : Type 1} → statement M

@@ -1,4 +1,4 @@
-use Rattle.table.specs.Settle.{keptOf}
+use Rattle.table.specs.Settle.{recordKeptOf}
 use borrow.Author.Needs.{needs}
 use Rattle.table.proofs.settle.kept.Statement.{statement}
 use Rattle.table.proofs.settle.kept.Tie as tie
@@ -7,11 +7,11 @@ changes-requires : tie.Need-changes-requires
 changes-requires c κs = search needs
 
 returns : tie.Need-returns
-unfolding keptOf
+unfolding recordKeptOf
 returns c = simp (c .if1 .taken, ← (c .before .changes .ensures))
 
 returns-2 : tie.Need-returns-2
-unfolding keptOf
+unfolding recordKeptOf
 returns-2 c = simp (c .if1 .left, ← (c .before .changes .ensures))
 
 pub kept-spec : {M : Type 1} → statement M

@@ -42,13 +42,13 @@ use Rattle.event.proofs.Event as E
 use Rattle.event.proofs.Event.Laws as E′
 use Rattle.table.specs.Table.{tableSound, findFrom, placeFrom}
 use Rattle.table.specs.Chosen.{chosenOf}
-use Rattle.table.specs.Choice.{referenceOf, chooseOf}
-use Rattle.table.specs.declared.choice.Found.{Found}
+use Rattle.table.specs.Choice.{meantReferenceOf, chooseOf}
+use Rattle.table.specs.declared.choice.Spot.{Spot}
 use Rattle.table.specs.declared.choice.Choice.{Choice}
 use Rattle.table.proofs.Ends.{full, forgets, frees-all}
 use Rattle.flow_meter.proofs.Plainly.{pre-plain, calls-told, calls-plain, leaves}
-use Rattle.table.proofs.choice.Found as U
-use Rattle.table.proofs.choice.Found.Laws as U′
+use Rattle.table.proofs.choice.Spot as U
+use Rattle.table.proofs.choice.Spot.Laws as U′
 use Rattle.table.proofs.choice.Choice as R
 use Rattle.table.proofs.choice.Choice.Laws as R′
 use Rattle.table.proofs.choice.reference_of as g
@@ -82,14 +82,14 @@ stayed = (stay-dropped (shrSliceOf (0 ∷ []) tt (plain (λ _. T.the-row))) yes,
 abbrev eval : Event → Val
 eval = LE.val E.the-type E′.the-laws
 
-abbrev uval : Found → Val
+abbrev uval : Spot → Val
 uval = LE.val U.the-type U′.the-laws
 
 abbrev rval : Choice → Val
 rval = LE.val R.the-type R′.the-laws
 
 -- what the five calls say together
-chose : (l : List Call) (k : ℕ) (e : Event) (m : ℕ) (t : Bool) (d r : Found) (c : Choice) → m ≡ referenceOf k e → t ≡ tableSound l → d ≡ findFrom l 0 m → r ≡ placeFrom l 0 → c ≡ chooseOf t e d r → c ≡ chosenOf l k e
+chose : (l : List Call) (k : ℕ) (e : Event) (m : ℕ) (t : Bool) (d r : Spot) (c : Choice) → m ≡ meantReferenceOf k e → t ≡ tableSound l → d ≡ findFrom l 0 m → r ≡ placeFrom l 0 → c ≡ chooseOf t e d r → c ≡ chosenOf l k e
 unfolding chosenOf
 chose l k e m t d r c em et ed er ec = ec ∙ (λ j. chooseOf (et j) e ((ed ∙ ap (findFrom l 0) em) j) (er j))
 
@@ -157,10 +157,10 @@ module _ {M : Type 1} (𝓤 : URA M) (H : Heap 𝓤) (A : Atoms 𝓤) (W : Given
   goes-p = qed W (‵ (ShrSlice (named 0) κ T.the-row .own x (sliceVal (b, o) n ∷ [])) ∷ (‵ (flft κ q) ⊛ ‵ ftrue) ∷ []) ∵
       nothing ! $ move ! (1 ∷ 0 ∷ []) $ fjoin ! $ move ! (1 ∷ 0 ∷ []) $ join ! $ nothing ! $ move ! (1 ∷ 0 ∷ []) $ done !
 
-  abbrev to-m : Bool → Found → Found → Bound 𝓤 H A u.signature
+  abbrev to-m : Bool → Spot → Spot → Bound 𝓤 H A u.signature
   to-m t d r = (tt, tt, tt, (t, (e, (d, (r, tt)))), (vbool t ∷ [], (eval e ∷ [], (uval d ∷ [], (uval r ∷ [], tt)))))
 
-  goes-m : (t : Bool) (d r : Found) → Is E.the-row e (eval e ∷ []) → Is U.the-row d (uval d ∷ []) → Is U.the-row r (uval r ∷ []) → ent 𝓤 (emp 𝓤) (Ch 𝓤 H A at-mem run .pre (to-m t d r, tt))
+  goes-m : (t : Bool) (d r : Spot) → Is E.the-row e (eval e ∷ []) → Is U.the-row d (uval d ∷ []) → Is U.the-row r (uval r ∷ []) → ent 𝓤 (emp 𝓤) (Ch 𝓤 H A at-mem run .pre (to-m t d r, tt))
   goes-m t d r ise isd isr = pre-plain 𝓤 H A u.ended (u.clauses 𝓤 H A at-mem run) (to-m t d r) tt (id⊢ 𝓤 (emp 𝓤))
       (bool-makes 𝓤 H A W, (LE.makes E.the-type E′.the-plain 𝓤 H A, (LE.makes U.the-type U′.the-plain 𝓤 H A, (LE.makes U.the-type U′.the-plain 𝓤 H A, tt)))) (refl, (ise, (isd, (isr, tt)))) (id⊢ 𝓤 (emp 𝓤))
 
@@ -171,7 +171,7 @@ module _ {M : Type 1} (𝓤 : URA M) (H : Heap 𝓤) (A : Atoms 𝓤) (W : Given
         qed W ((‵ (flft κ q) ⊛ ‵ ftrue) ∷ ‵ (owns (ShrSlice (named 0) κ T.the-row ∷ u16 ∷ E.the-row ∷ []) a vals) ∷ []) ∵ enter ! C Λ code.function (sliceVal (b, o) n ∷ vint w16 k ∷ eval e ∷ []) _ $
         alloc1 ! (λ l₀. alloc1 ! (λ l₁. alloc1 ! (λ l₂. alloc1 ! (λ l₃. alloc1 ! (λ l₄. alloc1 ! (λ l₅. alloc1 ! (λ l₆. alloc1 ! (λ l₇. alloc1 ! (λ l₈. alloc0 ! $ params1 ! $
         pass1 ! (init ! 14 refl (tt, (tt, (record { fits = room .0 }, tt)))) $ pass1 ! (init ! 12 refl (tt, record { fits = gk })) $ pass1 ! (init ! 10 refl (LE.lawful E.the-type E′.the-laws 𝓤 H A W tt .typed e _ ise .0)) $ pass0 ! $
-        calls-plain ! fm g.ended (g.clauses 𝓤 H A at-mem run) known-g to-g tt (goes-g gk ise) (λ m. m ≡ referenceOf k e) (λ m ws. id⊢ 𝓤 _) (vint w16) (uint-tells w16)
+        calls-plain ! fm g.ended (g.clauses 𝓤 H A at-mem run) known-g to-g tt (goes-g gk ise) (λ m. m ≡ meantReferenceOf k e) (λ m ws. id⊢ 𝓤 _) (vint w16) (uint-tells w16)
         (and-then ! (load ! (from ! (stop !)) (look ! 13 refl)) (and-then ! (load ! (from ! (stop !)) (look ! 11 refl)) (no-more !))) (λ m em ism.
         land ! (from ! (stop !)) (init ! 8 refl (tt, record { fits = ism .1 })) $
         move ! (19 ∷ []) $ fsplit ! $

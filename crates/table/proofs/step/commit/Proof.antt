@@ -47,14 +47,14 @@ use Rattle.call.proofs.Call as T
 use Rattle.call.proofs.Call.Laws as T′
 use Rattle.table.specs.Halves.{committed}
 use Rattle.table.specs.Plan.{rowOf, recordOf}
-use Rattle.table.specs.declared.plan.Put.{Put}
+use Rattle.table.specs.declared.plan.Change.{Change}
 use Rattle.table.proofs.Arms.{assigns-on, skips-on}
 use Rattle.table.proofs.step.Planned.{puts, passes}
 use Rattle.table.proofs.Rows.{byte-fits, own-slice}
 use Rattle.table.proofs.Ends.{full, forgets, frees-all}
 use Rattle.flow_meter.proofs.Plainly.{pre-plain, calls-plain, leaves}
-use Rattle.table.proofs.plan.Put as U
-use Rattle.table.proofs.plan.Put.Laws as U′
+use Rattle.table.proofs.plan.Change as U
+use Rattle.table.proofs.plan.Change.Laws as U′
 use Rattle.table.proofs.plan.record as g
 use Rattle.table.proofs.plan.record.Symbol as g-def
 use Rattle.table.proofs.plan.record.Symbol.{name as #g}
@@ -75,7 +75,7 @@ stayed = (stay-slice (0 ∷ []) tt (plain (λ _. T.the-row)), (stay-dropped (pla
 abbrev val : Call → Val
 val = LL.val T.the-type T′.the-laws
 
-abbrev uval : Put → Val
+abbrev uval : Change → Val
 uval = LE.val U.the-type U′.the-laws
 
 abbrev table : Ty
@@ -96,7 +96,7 @@ G 𝓤 H A mem run = tripleOf 𝓤 H A g.signature (g.spec 𝓤 H A mem run)
 abbrev L : {M : Type 1} (𝓤 : URA M) (H : Heap 𝓤) (A : Atoms 𝓤) (mem : Memory → SProp 𝓤) (run : Routine → Fun 𝓤) → Contract 𝓤
 L 𝓤 H A mem run = tripleOf 𝓤 H A m.signature (m.spec 𝓤 H A mem run)
 
-module _ {M : Type 1} (𝓤 : URA M) (H : Heap 𝓤) (A : Atoms 𝓤) (W : Given 𝓤 H A) (at-mem : Memory → SProp 𝓤) (run : Routine → Fun 𝓤) (κ : Lft) (q : Share) (b o : ℕ) (γ : GName) (ys : List Call) (p : Put) where
+module _ {M : Type 1} (𝓤 : URA M) (H : Heap 𝓤) (A : Atoms 𝓤) (W : Given 𝓤 H A) (at-mem : Memory → SProp 𝓤) (run : Routine → Fun 𝓤) (κ : Lft) (q : Share) (b o : ℕ) (γ : GName) (ys : List Call) (p : Change) where
   abbrev n : ℕ
   n = length ys
 
@@ -106,7 +106,7 @@ module _ {M : Type 1} (𝓤 : URA M) (H : Heap 𝓤) (A : Atoms 𝓤) (W : Given
   abbrev s : Val
   s = sliceVal (b, o) n
 
-  abbrev a : RefT (List Call) × (Put × Unit {0})
+  abbrev a : RefT (List Call) × (Change × Unit {0})
   a = (x ys, (p, tt))
 
   abbrev vals : List Val × (List Val × Unit {0})

@@ -49,7 +49,7 @@ use Rattle.table.specs.Decided.{planOf}
 use Rattle.table.specs.Step.{stepOutcome, stepTable}
 use Rattle.table.specs.declared.plan.Looked.{Looked}
 use Rattle.table.specs.declared.plan.Plan.{Plan}
-use Rattle.table.specs.declared.plan.Put.{Put}
+use Rattle.table.specs.declared.plan.Change.{Change}
 use Rattle.table.specs.declared.settle.Outcome.{Outcome}
 use Rattle.table.proofs.step.Again.{LentAgain, lends-again, comes-back}
 use Rattle.table.proofs.step.Looks.{LentShared, shares-again, comes-back as looked-back}
@@ -62,8 +62,8 @@ use Rattle.table.proofs.plan.Looked as R
 use Rattle.table.proofs.plan.Looked.Laws as R′
 use Rattle.table.proofs.plan.Plan as N
 use Rattle.table.proofs.plan.Plan.Laws as N′
-use Rattle.table.proofs.plan.Put as O
-use Rattle.table.proofs.plan.Put.Laws as O′
+use Rattle.table.proofs.plan.Change as O
+use Rattle.table.proofs.plan.Change.Laws as O′
 use Rattle.table.proofs.step.look as g
 use Rattle.table.proofs.step.look.Symbol as g-def
 use Rattle.table.proofs.step.look.Symbol.{name as #g}
@@ -105,7 +105,7 @@ rval = LE.val R.the-type R′.the-laws
 abbrev nval : Plan → Val
 nval = LL.val N.the-type N′.the-laws
 
-abbrev oval : Put → Val
+abbrev oval : Change → Val
 oval = LE.val O.the-type O′.the-laws
 
 abbrev to-call : Ty
@@ -185,10 +185,10 @@ module _ {M : Type 1} (𝓤 : URA M) (H : Heap 𝓤) (A : Atoms 𝓤) (W : Given
   goes-d : (w : Plan) → Is N.the-row w (nval w ∷ []) → ent 𝓤 (emp 𝓤) (D 𝓤 H A at-mem run .pre (to-d w, tt))
   goes-d w is = pre-plain 𝓤 H A d.ended (d.clauses 𝓤 H A at-mem run) (to-d w) tt (id⊢ 𝓤 (emp 𝓤)) (LL.makes N.the-type N′.the-plain 𝓤 H A, tt) (is, tt) (id⊢ 𝓤 (emp 𝓤))
 
-  abbrev to-c : ℕ → GName → Put → Bound 𝓤 H A c.signature
+  abbrev to-c : ℕ → GName → Change → Bound 𝓤 H A c.signature
   to-c ν δ t = ((ν ∷ [], tt), (fullShare, tt), tt, (x δ ys, (t, tt)), (s ∷ [], (oval t ∷ [], tt)))
 
-  goes-c : (ν : ℕ) (δ : GName) (t : Put) → Is O.the-row t (oval t ∷ []) → ent 𝓤 (sep 𝓤 (A .lft (ν ∷ []) fullShare) (sem 𝓤 H A (MutSlice (named 0) (ν ∷ []) T.the-row .own (x δ ys) (s ∷ [])))) (K 𝓤 H A at-mem run .pre (to-c ν δ t, tt))
+  goes-c : (ν : ℕ) (δ : GName) (t : Change) → Is O.the-row t (oval t ∷ []) → ent 𝓤 (sep 𝓤 (A .lft (ν ∷ []) fullShare) (sem 𝓤 H A (MutSlice (named 0) (ν ∷ []) T.the-row .own (x δ ys) (s ∷ [])))) (K 𝓤 H A at-mem run .pre (to-c ν δ t, tt))
   goes-c ν δ t is =
       qed W (‵ (flft (ν ∷ []) fullShare) ∷ ‵ (MutSlice (named 0) (ν ∷ []) T.the-row .own (x δ ys) (s ∷ [])) ∷ []) ∵ nothing ! $ owned ! O.the-row (Is O.the-row) (LE.makes O.the-type O′.the-plain 𝓤 H A) t _ is $ fjoin ! $
       move ! (2 ∷ 0 ∷ []) $ fjoin ! $ nothing ! $ move ! (2 ∷ 0 ∷ []) $ join ! $ join ! $ nothing ! $ move ! (1 ∷ 0 ∷ []) $ done !

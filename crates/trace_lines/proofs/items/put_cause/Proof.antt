@@ -37,7 +37,7 @@ same-length c = search needs
 
 returns-2 : tie.Need-returns-2
 unfolding commas
-returns-2 c = let p = c .before .before .before .before .before .before .before .put .ensures in spelled (simp (append-nil, c .before .before .before .before .before .before .before .before .before .before .before .c .given .1)) (omega arith) (two (omega arith) p (settled (omega (arith, p .end)) (at-most-twenty _ (omega arith)) (c .before .before .before .write-decimal .ensures) (c .end-of .ensures)))
+returns-2 c = let p = c .before .before .before .before .before .before .before .put .ensures in spelled (simp (append-nil, c .before .before .before .before .before .before .before .before .before .before .before .c .given .1)) (omega arith) (two (omega arith) p (settled (omega (arith, p .put .end)) (at-most-twenty _ (omega arith)) (c .before .before .before .write-decimal .ensures) (c .end-of .ensures)))
 
 pub put-cause-spec : {M : Type 1} → statement M
 put-cause-spec = tie.close (tie.spec enum-told enum-known-c slice-aggregate-put put-requires cast-write-decimal write-decimal-requires end-of-requires returns same-length returns-2)

@@ -16,7 +16,7 @@ same-length : tie.Need-same-length
 same-length c = search needs
 
 returns : tie.Need-returns
-returns c = let p = c .before .before .put-sent .ensures in (put-in refl (omega (arith, p .small)) (p .end) (p .octets), p .small)
+returns c = let p = c .before .before .put-sent .ensures in (put-in refl (omega (arith, p .small)) (p .put .end) (p .put .octets), p .small)
 
 slice-aggregate-put-sent : tie.Need-slice-aggregate-put-sent
 slice-aggregate-put-sent c = search needs

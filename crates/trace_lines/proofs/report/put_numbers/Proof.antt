@@ -23,13 +23,13 @@ cast-put-number : tie.Need-cast-put-number
 cast-put-number c = search needs
 
 put-number-requires : tie.Need-put-number-requires
-put-number-requires c κs = let p = settled {most = 20} (omega arith) (at-most-twenty _ (omega arith)) (c .before .before .before .before .write-decimal .ensures) (c .before .end-of .ensures) in omega (arith, p .end, p .small)
+put-number-requires c κs = let p = settled {most = 20} (omega arith) (at-most-twenty _ (omega arith)) (c .before .before .before .before .write-decimal .ensures) (c .before .end-of .ensures) in omega (arith, p .put .end, p .small)
 
 cast-put-number-2 : tie.Need-cast-put-number-2
 cast-put-number-2 c = search needs
 
 put-number-requires-2 : tie.Need-put-number-requires-2
-put-number-requires-2 c κs = let p = settled {most = 20} (omega arith) (at-most-twenty _ (omega arith)) (c .before .before .before .before .before .before .before .before .write-decimal .ensures) (c .before .before .before .before .before .end-of .ensures) in omega (arith, p .end, p .small, c .before .before .before .put-number .ensures .end, c .before .before .before .put-number .ensures .small)
+put-number-requires-2 c κs = let p = settled {most = 20} (omega arith) (at-most-twenty _ (omega arith)) (c .before .before .before .before .before .before .before .before .write-decimal .ensures) (c .before .before .before .before .before .end-of .ensures) in omega (arith, p .put .end, p .small, c .before .before .before .put-number .ensures .put .end, c .before .before .before .put-number .ensures .small)
 
 note-number-requires : tie.Need-note-number-requires
 note-number-requires c κs = search needs
@@ -38,7 +38,7 @@ cast-put-number-3 : tie.Need-cast-put-number-3
 cast-put-number-3 c = search needs
 
 put-number-requires-3 : tie.Need-put-number-requires-3
-put-number-requires-3 c κs = let p = settled {most = 20} (omega arith) (at-most-twenty _ (omega arith)) (c .before .before .before .before .before .before .before .before .before .before .before .before .before .write-decimal .ensures) (c .before .before .before .before .before .before .before .before .before .before .end-of .ensures) in omega (arith, p .end, p .small, c .before .before .before .before .before .before .before .before .put-number .ensures .end, c .before .before .before .before .before .before .before .before .put-number .ensures .small, c .before .before .before .before .put-number2 .ensures .end, c .before .before .before .before .put-number2 .ensures .small)
+put-number-requires-3 c κs = let p = settled {most = 20} (omega arith) (at-most-twenty _ (omega arith)) (c .before .before .before .before .before .before .before .before .before .before .before .before .before .write-decimal .ensures) (c .before .before .before .before .before .before .before .before .before .before .end-of .ensures) in omega (arith, p .put .end, p .small, c .before .before .before .before .before .before .before .before .put-number .ensures .put .end, c .before .before .before .before .before .before .before .before .put-number .ensures .small, c .before .before .before .before .put-number2 .ensures .put .end, c .before .before .before .before .put-number2 .ensures .small)
 
 same-length : tie.Need-same-length
 same-length c = search needs

@@ -20,7 +20,7 @@ same-length : tie.Need-same-length
 same-length c = search needs
 
 returns : tie.Need-returns
-returns c = let a = c .before .before .before .before .before .before .before .before .write-sent .ensures in let b = c .before .before .before .write-sent2 .ensures in let p = settled {most = 79} (omega arith) (a .1) (a .0) (c .before .before .before .before .before .end-of .ensures) in spelled (simp (c .before .before .before .before .before .before .before .before .before .before .if1 .taken)) (omega arith) (two (omega arith) p (settled {most = 79} (omega (arith, p .end, p .small)) (b .1) (b .0) (c .end-of2 .ensures)))
+returns c = let a = c .before .before .before .before .before .before .before .before .write-sent .ensures in let b = c .before .before .before .write-sent2 .ensures in let p = settled {most = 79} (omega arith) (a .1) (a .0) (c .before .before .before .before .before .end-of .ensures) in spelled (simp (c .before .before .before .before .before .before .before .before .before .before .if1 .taken)) (omega arith) (two (omega arith) p (settled {most = 79} (omega (arith, p .put .end, p .small)) (b .1) (b .0) (c .end-of2 .ensures)))
 
 returns-2 : tie.Need-returns-2
 returns-2 c = spelled (simp (c .if1 .left)) (omega arith) no-piece

@@ -16,7 +16,7 @@ same-length : tie.Need-same-length
 same-length c = search needs
 
 returns : tie.Need-returns
-returns c = let p = c .before .before .put-line .ensures in put-in refl (omega (arith, p .small)) (p .end) (p .octets)
+returns c = let p = c .before .before .put-line .ensures in put-in refl (omega (arith, p .small)) (p .put .end) (p .put .octets)
 
 slice-aggregate-put-line : tie.Need-slice-aggregate-put-line
 slice-aggregate-put-line c = search needs

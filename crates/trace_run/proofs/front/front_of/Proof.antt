@@ -9,7 +9,7 @@ use Rattle.trace.specs.declared.Fault.{Fault}
 use Rattle.trace.specs.declared.Record.{Record}
 use Rattle.trace.proofs.Fault.{the-type}
 use Rattle.trace_run.specs.declared.front.Front.{Front}
-use Rattle.trace_run.specs.Fronts.{heardOf, frontOf}
+use Rattle.trace_run.specs.Fronts.{heededOf, frontOf}
 use Rattle.trace_run.proofs.front.front_of.Statement.{statement}
 use Rattle.trace_run.proofs.front.front_of.Tie as tie
 
@@ -17,7 +17,7 @@ abbrev rest : List ℕ
 rest = 0 ∷ 2 ∷ []
 
 -- no fault of the last arm is a record cut short
-others : (last : Bool) (f : Fault) → OneOf rest (tagOf the-type f) → heardOf last (Record.Refused f) ≡ Front.Faulty f
+others : (last : Bool) (f : Fault) → OneOf rest (tagOf the-type f) → heededOf last (Record.Refused f) ≡ Front.Faulty f
 others last Fault.Kind k = refl
 others last Fault.Short k = absurd (miss rest 1 tt k)
 others last Fault.Range k = refl
