@@ -1,2 +1,2 @@
 pub mod Fates
-pub mod Consequences
+pub mod Effects

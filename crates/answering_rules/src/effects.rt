@@ -1,6 +1,6 @@
 // What the fates of the services make of a call: how each then stands, what is said of it, and the cause if one failed.
 ghost use mathlib.Core.Path.{_≡_};
-ghost use Rattle.answering_rules.specs.Consequences.{settledOf, toldOf, declinedOf, failureOf, failedOf, settlesOf, tellsOf, declinesOf, inForceAfterOf};
+ghost use Rattle.answering_rules.specs.Effects.{settledOf, toldOf, declinedOf, failureOf, failedOf, settlesOf, tellsOf, declinesOf, inForceAfterOf};
 use crate::Fate;
 use crate::Fates;
 use cause::Cause;
@@ -12,6 +12,7 @@ use services::Said;
 use services::Standing;
 use services::Standings;
 
+// How a service stands after its answer. Where one failed the call is cleared, and nobody asks this.
 fn settled(s: Standing, f: Fate) -> Standing
     ensures { λ r. ⌜ r ≡ settledOf s f ⌝ }
 {

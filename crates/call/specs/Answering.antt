@@ -14,7 +14,7 @@ use Rattle.call.specs.declared.Call.{Call}
 use Rattle.call.specs.declared.reply.Reply.{Reply}
 use Rattle.services.specs.Standing.{inForceOf}
 use Rattle.answering_rules.specs.Fates.{alertingFatesOf, connectFatesOf}
-use Rattle.answering_rules.specs.Consequences.{failedOf, settlesOf, tellsOf, declinesOf, inForceAfterOf}
+use Rattle.answering_rules.specs.Effects.{failedOf, settlesOf, tellsOf, declinesOf, inForceAfterOf}
 use Rattle.cause.specs.Cause.{cleared}
 use Rattle.user_element.specs.Element.{seenOf, notedOf, goesOutOf}
 use Rattle.sent.specs.Message.{sayingOf, bareOf}

@@ -36,13 +36,16 @@ closedCallOf c one =
       meters = c .meters;
     }
 
+-- service 1 after the answers that count: "an acceptance of open service 1 counts first"
+abbrev pub oneAfterOf : Call → Answers → Standing
+oneAfterOf c a = closingStandingOf (c .standings .one) (a .one)
+
 -- "Passed on with cause and, if service 1 is in force, the element; Clearing."
 unfoldable pub passedOnOf : Call → Side → ℕ → Answers → Seen → Reply
 passedOnOf c side cause a seen =
-    replyOf side (closedCallOf c (closingStandingOf (c .standings .one) (a .one))) Answer.Taken
-    (notedOf seen (inForceOf (closingStandingOf (c .standings .one) (a .one)))) Sent.Absent
+    replyOf side (closedCallOf c (oneAfterOf c a)) Answer.Taken (notedOf seen (inForceOf (oneAfterOf c a))) Sent.Absent
     (sayingOf Kind.Disconnect (Cause.Value cause) (closingFacilitiesOf (c .standings) (c .asking .calling) a)
-    (goesOutOf seen (inForceOf (closingStandingOf (c .standings .one) (a .one)))))
+    (goesOutOf seen (inForceOf (oneAfterOf c a))))
 
 -- "DISCONNECT (up)." Number 24: "DISCONNECT, cause over 127".
 unfoldable pub disconnectOf : Call → Side → ℕ → Answers → List ℕ → Reply

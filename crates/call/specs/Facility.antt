@@ -8,7 +8,7 @@ use Rattle.call.specs.declared.Call.{Call}
 use Rattle.call.specs.declared.reply.Reply.{Reply}
 use Rattle.services.specs.Standing.{inForceOf}
 use Rattle.facility_rules.specs.Asking.{verdictOf, facilityAskingOf, facilityThreeOf, facilityMetersOf}
-use Rattle.facility_rules.specs.Telling.{toAskerOf, toOtherOf}
+use Rattle.facility_rules.specs.Messages.{toAskerOf, toOtherOf}
 use Rattle.answer.specs.Answer.{takenOf}
 use Rattle.phases.specs.Phase.{activeOf}
 use Rattle.call.specs.Reply.{barOf, heardOf, replyOf}

@@ -14,9 +14,9 @@ use Rattle.services.specs.Standing.{inForceOf}
 use Rattle.user_element.specs.Element.{seenOf, wholeOf, notedOf}
 use Rattle.phases.specs.Phase.{talkingOf}
 use Rattle.information_rules.specs.Serving.{servedOf}
-use Rattle.information_rules.specs.Passing.{passageAnswerOf, toSenderOf, toReceiverOf}
+use Rattle.information_rules.specs.Messages.{passageAnswerOf, toSenderOf, toReceiverOf}
 use Rattle.call.specs.Reply.{barOf, refusedOf, heardOf, replyOf}
-use Rattle.flow_meter.specs.Meters.{meterOf, spentOf}
+use Rattle.flow_meter.specs.CallMeters.{meterOf, spentOf}
 
 -- the record with other meters
 unfoldable pub metersOf : Call → Meters → Call

@@ -15,7 +15,7 @@ use Rattle.setup_rules.specs.Requests.{openingOf}
 use Rattle.user_element.specs.Element.{seenOf}
 use Rattle.facility_rules.specs.Asking.{nobodyAsks}
 use Rattle.phases.specs.Phase.{freshOf}
-use Rattle.flow_meter.specs.Meters.{emptyMeters}
+use Rattle.flow_meter.specs.CallMeters.{emptyMeters}
 use Rattle.call.specs.Reply.{barOf, heardOf}
 
 -- "SETUP fills the whole record, used for one call."

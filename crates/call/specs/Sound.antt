@@ -9,7 +9,7 @@ use Rattle.facility_rules.specs.Asking.{nobodyAsks}
 use Rattle.phases.specs.Phase.{liveOf}
 use Rattle.flow_meter.specs.Meter.{meterFitsOf}
 use Rattle.flow_meter.specs.declared.call_meters.Meters.{Meters}
-use Rattle.flow_meter.specs.Meters.{emptyMeters}
+use Rattle.flow_meter.specs.CallMeters.{emptyMeters}
 use Rattle.services.specs.Standing.{noServices}
 
 -- a record before its SETUP

@@ -9,7 +9,7 @@ use Rattle.phases.specs.Phase.{liveOf}
 use Rattle.information_rules.specs.Serving.{servesThreeOf}
 use Rattle.call.specs.Information.{metersOf}
 use Rattle.call.specs.Reply.{barOf, heardOf}
-use Rattle.flow_meter.specs.Ticking.{refillsOf, readyOf}
+use Rattle.flow_meter.specs.CallMeters.{refillsOf, readyOf}
 
 -- service 3 in force in Active
 unfoldable pub runsOf : Call → Bool

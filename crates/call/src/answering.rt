@@ -104,7 +104,9 @@ impl Call {
     {
         let phase = self.phase;
         let standings = self.standings;
-        let fates = connect_fates(!is_requested(phase), standings, answers);
+        // ALERTING came exactly if the call is no longer Requested.
+        let alerted = !is_requested(phase);
+        let fates = connect_fates(alerted, standings, answers);
         let reply = answered(self, Kind::Connect, Phase::Active, fates, element);
         heard(self, is_connectable(phase), true, reply)
     }

@@ -21,12 +21,12 @@ use Rattle.flow_meter.specs.Passage.{countedOf, paidOf, markedOf, underThreeOf,
 use Rattle.rights.specs.Rights.{hasOf}
 use Rattle.services.specs.Standing.{inForceOf, remainsOf}
 use Rattle.answering_rules.specs.Fates.{decidedOf}
-use Rattle.answering_rules.specs.Consequences.{settledOf, failureOf, inForceAfterOf}
+use Rattle.answering_rules.specs.Effects.{settledOf, failureOf, inForceAfterOf}
 use Rattle.clearing_rules.specs.Closing.{closingStandingOf}
 use Rattle.facility_rules.specs.Asking.{nobodyAsks}
 use Rattle.information_rules.specs.Serving.{lateOf}
-use Rattle.information_rules.specs.Passing.{passesOf}
-use Rattle.flow_meter.specs.Meters.{grantsOf, meterOf}
+use Rattle.information_rules.specs.Messages.{passesOf}
+use Rattle.flow_meter.specs.CallMeters.{grantsOf, meterOf}
 use Rattle.call_promises.specs.MoreRights.{NoLess}
 use Rattle.logic.proofs.Decide.{never, by-cond}
 

@@ -38,15 +38,14 @@ use Rattle.user_element.specs.Element.{wellFormedOf, seenOf, wholeOf}
 use Rattle.services.specs.Standing.{inForceOf, noServices}
 use Rattle.setup_rules.specs.Requests.{askedStandingOf, firstStandingOf, lackingOf, standingsOf, lacksOf, setupPhaseOf}
 use Rattle.answering_rules.specs.Fates.{decidedOf, alertingFatesOf, connectFatesOf}
-use Rattle.answering_rules.specs.Consequences.{settledOf, settlesOf, failureOf, failedOf, inForceAfterOf}
+use Rattle.answering_rules.specs.Effects.{settledOf, settlesOf, failureOf, failedOf, inForceAfterOf}
 use Rattle.answer.specs.Answer.{numberOf, takenOf}
 use Rattle.facility_rules.specs.Asking.{asksOf, mayAskOf, toRequestOf, toAnswerOf}
 use Rattle.phases.specs.Phase.{requestedOf, connectableOf, talkingOf, activeOf, liveOf}
 use Rattle.information_rules.specs.Serving.{servesTwoOf, servesThreeOf}
-use Rattle.information_rules.specs.Passing.{passageAnswerOf}
+use Rattle.information_rules.specs.Messages.{passageAnswerOf}
 use Rattle.sent.specs.Side.{peerOf}
-use Rattle.flow_meter.specs.Meters.{grantsOf, emptyMeters}
-use Rattle.flow_meter.specs.Ticking.{tickedMetersOf, refillsOf}
+use Rattle.flow_meter.specs.CallMeters.{grantsOf, emptyMeters, refillsOf, tickedMetersOf}
 use Rattle.call.specs.Answering.{answeredCallOf, goesOnOf, clearsOf, answeringOf, answeredOf, alertingOf, connectOf}
 use Rattle.call.specs.Disconnect.{closedCallOf, passedOnOf, disconnectOf, endsOf, releaseCompleteOf}
 use Rattle.call.specs.Facility.{facilityVerdictOf, facilityCallOf, passesFacilityOf, facilityOf}

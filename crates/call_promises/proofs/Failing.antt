@@ -10,7 +10,7 @@ use Rattle.services.specs.declared.Answers.{Answers}
 use Rattle.answering_rules.specs.declared.Fate.{Fate}
 use Rattle.answering_rules.specs.declared.Fates.{Fates}
 use Rattle.answering_rules.specs.Fates.{decidedOf, alertingFatesOf, connectFatesOf}
-use Rattle.answering_rules.specs.Consequences.{failureOf, failedOf}
+use Rattle.answering_rules.specs.Effects.{failureOf, failedOf}
 
 module _ (P : Cause → Type 0) (none : P Cause.Absent) (rejected : P (Cause.Value 29)) (unanswered : P (Cause.Value 69)) where
   decided : (s : Standing) (g : Given) → P (failureOf (decidedOf s g))

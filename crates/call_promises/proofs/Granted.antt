@@ -30,7 +30,7 @@ use Rattle.rights.specs.Rights.{hasOf}
 use Rattle.services.specs.Standing.{inForceOf, noServices}
 use Rattle.setup_rules.specs.Requests.{askedStandingOf, firstStandingOf, standingsOf}
 use Rattle.answering_rules.specs.Fates.{decidedOf, alertingFatesOf, connectFatesOf}
-use Rattle.answering_rules.specs.Consequences.{settledOf, failedOf}
+use Rattle.answering_rules.specs.Effects.{settledOf, failedOf}
 use Rattle.clearing_rules.specs.Closing.{silentAnswers, closingStandingOf, heardAnswersOf}
 use Rattle.answer.specs.Answer.{numberOf, takenOf}
 use Rattle.facility_rules.specs.Asking.{nobodyAsks, asksOf, mayAskOf, toRequestOf, toAnswerOf}

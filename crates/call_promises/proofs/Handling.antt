@@ -31,16 +31,15 @@ use Rattle.flow_meter.specs.Passage.{underThreeOf, passageOf}
 use Rattle.user_element.specs.Element.{noteNumberOf, seenOf, notedOf, goesOutOf}
 use Rattle.services.specs.Standing.{remainsOf}
 use Rattle.setup_rules.specs.Requests.{firstStandingOf, standingsOf, lacksOf, toCallerOf, toCalledOf, setupPhaseOf, setupCarriesOf}
-use Rattle.answering_rules.specs.Consequences.{failedOf}
+use Rattle.answering_rules.specs.Effects.{failedOf}
 use Rattle.answer.specs.Answer.{numberOf}
 use Rattle.sent.specs.Message.{sayingOf, bareOf, congestionOf, informsOf, onlyIfOf}
-use Rattle.information_rules.specs.Passing.{passageAnswerOf, passesOf, marksOf}
+use Rattle.information_rules.specs.Messages.{passageAnswerOf, passesOf, marksOf}
 use Rattle.call.specs.Answering.{goesOnOf, clearsOf, answeredCallOf, answeringOf, answeredOf, alertingOf, connectOf}
 use Rattle.call.specs.Disconnect.{closedCallOf, passedOnOf, disconnectOf, endsOf, releaseCompleteOf}
-use Rattle.facility_rules.specs.Telling.{aboutThreeOf}
+use Rattle.facility_rules.specs.Messages.{aboutThreeOf}
 use Rattle.call.specs.Facility.{passesFacilityOf, facilityOf}
-use Rattle.flow_meter.specs.Meters.{meterOf}
-use Rattle.flow_meter.specs.Ticking.{readyOf}
+use Rattle.flow_meter.specs.CallMeters.{meterOf, readyOf}
 use Rattle.call.specs.Information.{informationPassageOf, carriedOf, withElementOf, informationOf}
 use Rattle.call.specs.Reply.{refusedOf, replyOf}
 use Rattle.call.specs.Setup.{filledOf, proceedsOf, setupOf}

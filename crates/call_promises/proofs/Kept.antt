@@ -25,10 +25,9 @@ use Rattle.call.specs.declared.reply.Reply.{Reply}
 use Rattle.flow_meter.specs.Meter.{emptyOf, grantedOf, refilledOf, tickedOf}
 use Rattle.flow_meter.specs.Passage.{countedOf, paidOf, markedOf, underThreeOf, passageOf, afterOf}
 use Rattle.user_element.specs.Element.{wholeOf}
-use Rattle.answering_rules.specs.Consequences.{failedOf, inForceAfterOf}
+use Rattle.answering_rules.specs.Effects.{failedOf, inForceAfterOf}
 use Rattle.answer.specs.Answer.{takenOf}
-use Rattle.flow_meter.specs.Meters.{grantsOf, meterOf, withMeterOf, emptyMeters}
-use Rattle.flow_meter.specs.Ticking.{tickedMetersOf, refillsOf}
+use Rattle.flow_meter.specs.CallMeters.{grantsOf, meterOf, withMeterOf, emptyMeters, refillsOf, tickedMetersOf}
 use Rattle.call.specs.Answering.{answeredCallOf, goesOnOf, clearsOf, answeringOf, answeredOf, alertingOf, connectOf}
 use Rattle.call.specs.Disconnect.{closedCallOf, passedOnOf, disconnectOf, endsOf, releaseCompleteOf}
 use Rattle.call.specs.Facility.{facilityCallOf, passesFacilityOf, facilityOf}

@@ -38,20 +38,19 @@ use Rattle.rights.specs.Rights.{hasOf, rightsFitOf, referenceFitsOf}
 use Rattle.services.specs.Standing.{inForceOf}
 use Rattle.setup_rules.specs.Requests.{askedStandingOf, impliedOf, firstStandingOf, standingsOf, lackingOf, lacksOf, setupPhaseOf, toCallerOf, toCalledOf, setupCarriesOf}
 use Rattle.answering_rules.specs.Fates.{decidedOf, alertingFatesOf, connectFatesOf}
-use Rattle.answering_rules.specs.Consequences.{settledOf, settlesOf, failureOf, failedOf}
+use Rattle.answering_rules.specs.Effects.{settledOf, settlesOf, failureOf, failedOf}
 use Rattle.answer.specs.Answer.{takenOf}
 use Rattle.facility_rules.specs.Asking.{nobodyAsks, asksOf, mayAskOf, toRequestOf, toAnswerOf, facilityAnswerOf, facilityThreeOf, facilityMetersOf}
-use Rattle.facility_rules.specs.Telling.{aboutThreeOf}
+use Rattle.facility_rules.specs.Messages.{aboutThreeOf}
 use Rattle.sent.specs.Message.{sayingOf, bareOf, congestionOf, informsOf, onlyIfOf}
 use Rattle.phases.specs.Phase.{freshOf, requestedOf, connectableOf, talkingOf, activeOf, upOf, liveOf}
 use Rattle.information_rules.specs.Serving.{lateOf, servesTwoOf, servesThreeOf}
-use Rattle.information_rules.specs.Passing.{passesOf}
+use Rattle.information_rules.specs.Messages.{passesOf}
 use Rattle.sent.specs.Side.{peerOf}
 use Rattle.call.specs.Answering.{answeredCallOf, goesOnOf, clearsOf, answeringOf, answeredOf, alertingOf, connectOf}
 use Rattle.call.specs.Disconnect.{closedCallOf, passedOnOf, disconnectOf, endsOf, releaseCompleteOf}
 use Rattle.call.specs.Facility.{facilityVerdictOf, facilityCallOf, passesFacilityOf, facilityOf}
-use Rattle.flow_meter.specs.Meters.{meterOf, withMeterOf, emptyMeters}
-use Rattle.flow_meter.specs.Ticking.{tickedMetersOf, refillsOf, readyOf}
+use Rattle.flow_meter.specs.CallMeters.{meterOf, withMeterOf, emptyMeters, refillsOf, readyOf, tickedMetersOf}
 use Rattle.call.specs.Information.{metersOf, informationPassageOf, carriedOf, withElementOf, informationOf}
 use Rattle.call.specs.Reply.{barOf, refusedOf, heardOf, replyOf}
 use Rattle.call.specs.Setup.{filledOf, proceedsOf, setupOf}

@@ -35,11 +35,11 @@ use Rattle.rights.specs.Rights.{hasOf}
 use Rattle.services.specs.Standing.{inForceOf, awaitsOf, remainsOf}
 use Rattle.setup_rules.specs.Requests.{firstStandingOf, standingsOf, lackingOf, lacksOf, setupCarriesOf}
 use Rattle.answering_rules.specs.Fates.{decidedOf, alertingFatesOf, connectFatesOf}
-use Rattle.answering_rules.specs.Consequences.{settledOf, settlesOf, failureOf, failedOf}
+use Rattle.answering_rules.specs.Effects.{settledOf, settlesOf, failureOf, failedOf}
 use Rattle.clearing_rules.specs.Closing.{silentAnswers, closingStandingOf, heardAnswersOf}
 use Rattle.answer.specs.Answer.{numberOf}
 use Rattle.phases.specs.Phase.{requestedOf}
-use Rattle.information_rules.specs.Passing.{passageAnswerOf}
+use Rattle.information_rules.specs.Messages.{passageAnswerOf}
 use Rattle.call.specs.Answering.{answeredCallOf, goesOnOf, clearsOf, answeringOf, answeredOf, alertingOf, connectOf}
 use Rattle.call.specs.Disconnect.{passedOnOf, disconnectOf, endsOf, releaseCompleteOf}
 use Rattle.call.specs.Facility.{passesFacilityOf, facilityOf}

@@ -24,12 +24,12 @@ use Rattle.flow_meter.specs.Passage.{underThreeOf, passageOf}
 use Rattle.services.specs.Standing.{inForceOf}
 use Rattle.answer.specs.Answer.{numberOf}
 use Rattle.facility_rules.specs.Asking.{asksOf, mayAskOf, toRequestOf, toAnswerOf}
-use Rattle.information_rules.specs.Passing.{passageAnswerOf}
+use Rattle.information_rules.specs.Messages.{passageAnswerOf}
 use Rattle.sent.specs.Side.{peerOf}
 use Rattle.call.specs.Answering.{alertingOf, connectOf}
 use Rattle.call.specs.Disconnect.{passedOnOf, disconnectOf, endsOf, releaseCompleteOf}
 use Rattle.call.specs.Facility.{facilityVerdictOf, passesFacilityOf, facilityOf}
-use Rattle.flow_meter.specs.Meters.{meterOf}
+use Rattle.flow_meter.specs.CallMeters.{meterOf}
 use Rattle.call.specs.Information.{informationPassageOf, carriedOf, withElementOf, informationOf}
 use Rattle.call.specs.Reply.{barOf, refusedOf, heardOf, replyOf}
 use Rattle.call.specs.Setup.{proceedsOf, setupOf}

@@ -22,16 +22,16 @@ use Rattle.event.specs.declared.Event.{Event}
 use Rattle.call.specs.declared.reply.Reply.{Reply}
 use Rattle.flow_meter.specs.Passage.{markedOf, underThreeOf, passageOf, afterOf}
 use Rattle.user_element.specs.Element.{wholeOf}
-use Rattle.answering_rules.specs.Consequences.{failedOf}
+use Rattle.answering_rules.specs.Effects.{failedOf}
 use Rattle.answer.specs.Answer.{numberOf, takenOf}
 use Rattle.facility_rules.specs.Asking.{toRequestOf, toAnswerOf}
-use Rattle.facility_rules.specs.Telling.{notGrantedOf, aboutThreeOf}
+use Rattle.facility_rules.specs.Messages.{notGrantedOf, aboutThreeOf}
 use Rattle.sent.specs.Message.{silence, sayingOf, congestionOf, onlyIfOf}
-use Rattle.information_rules.specs.Passing.{passageAnswerOf, passesOf, marksOf}
+use Rattle.information_rules.specs.Messages.{passageAnswerOf, passesOf, marksOf}
 use Rattle.call.specs.Answering.{goesOnOf, clearsOf, answeringOf, answeredOf, alertingOf, connectOf}
 use Rattle.call.specs.Disconnect.{passedOnOf, disconnectOf, endsOf, releaseCompleteOf}
 use Rattle.call.specs.Facility.{facilityVerdictOf, passesFacilityOf, facilityOf}
-use Rattle.flow_meter.specs.Meters.{meterOf}
+use Rattle.flow_meter.specs.CallMeters.{meterOf}
 use Rattle.call.specs.Information.{metersOf, informationPassageOf, carriedOf, withElementOf, informationOf}
 use Rattle.call.specs.Reply.{refusedOf, replyOf}
 use Rattle.call.specs.Setup.{proceedsOf, setupOf}

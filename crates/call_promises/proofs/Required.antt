@@ -29,7 +29,7 @@ use Rattle.user_element.specs.Element.{wholeOf}
 use Rattle.rights.specs.Rights.{hasOf}
 use Rattle.setup_rules.specs.Requests.{askedStandingOf, firstStandingOf, standingsOf, lackingOf, lacksOf, setupPhaseOf}
 use Rattle.answering_rules.specs.Fates.{decidedOf, alertingFatesOf, connectFatesOf}
-use Rattle.answering_rules.specs.Consequences.{settledOf, settlesOf, failureOf, failedOf}
+use Rattle.answering_rules.specs.Effects.{settledOf, settlesOf, failureOf, failedOf}
 use Rattle.answer.specs.Answer.{numberOf, takenOf}
 use Rattle.call.specs.Answering.{answeredCallOf, goesOnOf, clearsOf, answeringOf, answeredOf, alertingOf, connectOf}
 use Rattle.call.specs.Disconnect.{closedCallOf, passedOnOf, disconnectOf, endsOf, releaseCompleteOf}

@@ -26,7 +26,7 @@ use Rattle.message_fields.specs.declared.Read.{Read}
 use Rattle.message_types.specs.Kind.{kindOf}
 use Rattle.elements.specs.Elements.{Element, Split, cut, whole, elements, counted}
 use Rattle.elements.specs.Meaning.{firstCause, andSays, components, firstThree, readingOf, takenFrom}
-use Rattle.message.specs.Reading.{widthOf, referenceOf, typedOf, headedOf, readOf}
+use Rattle.message.specs.Reading.{referenceOf, typedOf, headedOf, readOf}
 use Rattle.message.specs.Parts.{placeIn}
 use Rattle.octet_promises.specs.Promises.{CauseIn, FacilitiesIn}
 use Rattle.octet_promises.proofs.Promises.{element}
@@ -39,6 +39,7 @@ use Rattle.message_line.specs.Line.{lineWith, lineOf}
 use Rattle.message_line.proofs.Words.{taken-text, refused-text}
 use Rattle.capture.specs.Promises.{Octets, Bounded}
 use Rattle.logic.proofs.Decide.{by-cond}
+use Rattle.message_fields.specs.Width.{widthOf}
 
 -- the Cause
 body-cause : (b : List ℕ) → CauseIn (causeOf b)

@@ -17,7 +17,7 @@ use Rattle.elements.specs.declared.so_far.Seen.{Seen}
 use Rattle.elements.specs.declared.so_far.Found.{Found}
 use Rattle.elements.specs.Elements.{Element}
 use Rattle.elements.specs.Single.{singleOf, orSingle}
-use Rattle.elements.specs.Found.{noteCause, oneMore, noteFacility, notePlace}
+use Rattle.elements.specs.SoFar.{noteCause, oneMore, noteFacility, notePlace}
 use Rattle.elements.specs.Meaning.{firstSingle, firstCause, firstPlace, andSays, components, firstThree}
 use Rattle.elements.specs.Scan.{causeThen, listed, placeThen, readingFrom, Adds}
 

@@ -19,7 +19,7 @@ use Rattle.message_fields.specs.declared.Read.{Read}
 use Rattle.elements.specs.declared.End.{End}
 use Rattle.elements.specs.Elements.{Element, Split, cut, whole, then, elements, isWhole, counted, between, Ended, Ends}
 use Rattle.elements.specs.Single.{orSingle}
-use Rattle.elements.specs.Found.{causeSeen}
+use Rattle.elements.specs.SoFar.{causeSeen}
 use Rattle.elements.specs.Meaning.{firstSingle, firstCause, firstPlace, components, firstThree, readingOf, takenFrom}
 use Rattle.elements.specs.Scan.{causeThen, listed, placeThen, readingFrom, Adds, takenWith}
 use Rattle.elements.proofs.Splitting.{none-left}

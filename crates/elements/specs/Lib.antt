@@ -2,4 +2,4 @@ pub mod Elements
 pub mod Meaning
 pub mod Scan
 pub mod Single
-pub mod Found
+pub mod SoFar

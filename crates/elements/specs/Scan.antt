@@ -12,7 +12,7 @@ use Rattle.elements.specs.declared.so_far.Seen.{Seen}
 use Rattle.elements.specs.declared.so_far.Found.{Found}
 use Rattle.elements.specs.Elements.{Element}
 use Rattle.elements.specs.Single.{orSingle}
-use Rattle.elements.specs.Found.{causeSeen}
+use Rattle.elements.specs.SoFar.{causeSeen}
 use Rattle.elements.specs.Meaning.{firstSingle, firstCause, firstPlace, components, firstThree}
 
 -- what was found before, and then the elements that are left

@@ -14,6 +14,7 @@ use crate::so_far::first_cause;
 use crate::so_far::first_place;
 use crate::so_far::with_facility;
 use facility::forms::facility_in;
+use memory::octet::wide;
 use message_fields::Facilities;
 use message_fields::Fault;
 use message_fields::Header;
@@ -30,12 +31,6 @@ pub mod so_far;
 enum End {
     To(usize),
     Cut,
-}
-
-fn wide(x: u8) -> usize
-    ensures { λ r. ⌜ r ≡ x ⌝ }
-{
-    x as usize
 }
 
 fn end_of(m: &[u8], i: usize) -> End

@@ -1,6 +1,6 @@
 // What the elements of a message have said so far, and then one more.
 ghost use mathlib.Core.Path.{_≡_};
-ghost use Rattle.elements.specs.Found.{noteCause, noteFacility, notePlace, causeSeen};
+ghost use Rattle.elements.specs.SoFar.{noteCause, noteFacility, notePlace, causeSeen};
 use cause::Cause;
 use cause::element::cause_in;
 use facility::Facility;

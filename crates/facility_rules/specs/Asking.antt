@@ -11,7 +11,7 @@ use Rattle.rights.specs.Rights.{hasOf}
 use Rattle.sent.specs.Side.{peerOf}
 use Prim.Native.Nat.{ℕ}
 use Rattle.flow_meter.specs.declared.call_meters.Meters.{Meters}
-use Rattle.flow_meter.specs.Meters.{grantsOf}
+use Rattle.flow_meter.specs.CallMeters.{grantsOf}
 
 unfoldable pub nobodyAsks : Asking
 nobodyAsks = record { calling = false; called = false }
@@ -53,6 +53,8 @@ verdictOf r a force side what =
     (toRequestOf (mayAskOf r side) (force || asksOf a side))
     (toAnswerOf (force || not (asksOf a (peerOf side))))
 
+-- What is taken does to the two requests, to service 3 and to the meters. A required request is refused by 18 and never taken: its clauses here
+-- and in facilitySaidOf are there only to be total.
 -- "Accept puts the service in force and closes both; reject closes the one."
 abbrev pub facilityAskingOf : Asking → Side → What → Asking
 facilityAskingOf a side What.Preferred = withAskOf a side true

@@ -1,6 +1,6 @@
 // FACILITY about service 3: what it says, and what the asker and the other user are told.
 ghost use mathlib.Core.Path.{_≡_};
-ghost use Rattle.facility_rules.specs.Telling.{facilitySaidOf, aboutThreeOf, toAskerOf, toOtherOf};
+ghost use Rattle.facility_rules.specs.Messages.{facilitySaidOf, aboutThreeOf, toAskerOf, toOtherOf};
 use crate::What;
 use answer::Answer;
 use answer::taken;

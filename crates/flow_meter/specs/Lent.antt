@@ -42,3 +42,17 @@ ticksOf m burst refill =
       next = cond (refillFitsOf m burst refill) (tickedOf m burst refill) m;
       ticked = cond (refillFitsOf m burst refill) (cond (m .mark) Ticked.Ready Ticked.Quiet) Ticked.Unsound;
     }
+
+-- the paper's number of each answer
+abbrev pub spentNumber : Spent → ℕ
+spentNumber Spent.Two = 0
+spentNumber Spent.Three = 0
+spentNumber Spent.Marked = 14
+spentNumber Spent.Dropped = 14
+spentNumber Spent.Unserved = 13
+spentNumber Spent.Unsound = 25
+
+abbrev pub tickedNumber : Ticked → ℕ
+tickedNumber Ticked.Ready = 0
+tickedNumber Ticked.Quiet = 0
+tickedNumber Ticked.Unsound = 25

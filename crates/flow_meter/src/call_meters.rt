@@ -1,7 +1,6 @@
 // The two meters of a call, and what the events make of them.
 ghost use mathlib.Core.Path.{_≡_};
-ghost use Rattle.flow_meter.specs.Meters.{emptyMeters, meterOf, spentOf, grantsOf};
-ghost use Rattle.flow_meter.specs.Ticking.{refillsOf, readyOf};
+ghost use Rattle.flow_meter.specs.CallMeters.{emptyMeters, meterOf, spentOf, grantsOf, refillsOf, readyOf};
 use crate::Meter;
 use crate::empty;
 use crate::granted;

@@ -1,7 +1,6 @@
 // The flow meter of one direction, lent by its holder and changed there.
 ghost use mathlib.Core.Path.{_≡_};
-ghost use Rattle.flow_meter.specs.Lent.{spentBy, lentFitsOf, spendsOf, ticksOf};
-ghost use Rattle.flow_meter.specs.Metered.{spentNumber, tickedNumber};
+ghost use Rattle.flow_meter.specs.Lent.{spentBy, lentFitsOf, spendsOf, ticksOf, spentNumber, tickedNumber};
 use crate::Meter;
 use crate::meter_fits;
 use crate::passage::Passage;

@@ -1,2 +1,2 @@
 pub mod Serving
-pub mod Passing
+pub mod Messages

@@ -1,6 +1,6 @@
 // What a USER INFORMATION message is answered, and what its sender and the other side are sent.
 ghost use mathlib.Core.Path.{_≡_};
-ghost use Rattle.information_rules.specs.Passing.{passageAnswerOf, toSenderOf, toReceiverOf};
+ghost use Rattle.information_rules.specs.Messages.{passageAnswerOf, toSenderOf, toReceiverOf};
 use answer::Answer;
 use flow_meter::passage::Passage;
 use sent::Level;

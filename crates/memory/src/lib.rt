@@ -7,6 +7,7 @@ ghost use lib.ListN.{length};
 ghost use Rattle.memory.specs.Putting.{endOf};
 ghost use Rattle.memory.specs.Room.{placed, Written, Kept};
 
+pub mod octet;
 pub mod stretch;
 
 // Why nothing was written.

@@ -12,7 +12,8 @@ use Rattle.message_fields.specs.declared.Read.{Read}
 use Rattle.message_types.specs.Kind.{kindOf}
 use Rattle.elements.specs.Elements.{elements}
 use Rattle.elements.specs.Meaning.{takenFrom}
-use Rattle.message.specs.Reading.{widthOf, headerOf, typedOf, headedOf}
+use Rattle.message.specs.Reading.{headerOf, typedOf, headedOf}
+use Rattle.message_fields.specs.Width.{widthOf}
 
 module _ (w : Width) (m : List ℕ) where
   pub headed-short : length m < widthOf w + 3 → Read.Refused Fault.Short ≡ headedOf w m

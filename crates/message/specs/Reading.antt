@@ -13,11 +13,7 @@ use Rattle.message_fields.specs.declared.Fault.{Fault}
 use Rattle.message_fields.specs.declared.Read.{Read}
 use Rattle.elements.specs.Elements.{elements}
 use Rattle.elements.specs.Meaning.{takenFrom}
-
--- "the reference length (1 or 2)"
-abbrev pub widthOf : Width → ℕ
-widthOf Width.One = 1
-widthOf Width.Two = 2
+use Rattle.message_fields.specs.Width.{widthOf}
 
 -- "the reference (its top bit is the flag, given back apart)": of its octet a, or of its octets a and b
 abbrev pub referenceOf : Width → ℕ → ℕ → ℕ

@@ -1,31 +1,18 @@
 // Reads a message: its header, and then its elements. No octet of it is copied.
 ghost use mathlib.Core.Path.{_≡_};
-ghost use Prim.Native.Nat.{_<_, _≤_};
-ghost use Rattle.message.specs.Reading.{widthOf, referenceOf, headedOf, readOf};
+ghost use Prim.Native.Nat.{_<_};
+ghost use Rattle.message.specs.Reading.{referenceOf, headedOf, readOf};
 use elements::scan;
+use memory::octet::wide16;
 use message_fields::Fault;
 use message_fields::Header;
 use message_fields::Read;
 use message_fields::Width;
+use message_fields::width_size;
 use message_types::Typed;
 use message_types::kind_in;
 
 pub mod parts;
-
-fn wide16(x: u8) -> u16
-    ensures { λ r. ⌜ (r ≡ x) × (r < 256) ⌝ }
-{
-    x as u16
-}
-
-fn width_size(w: Width) -> usize
-    ensures { λ r. ⌜ (r ≡ widthOf w) × (1 ≤ r) × (r ≤ 2) ⌝ }
-{
-    match w {
-        Width::One => 1,
-        Width::Two => 2,
-    }
-}
 
 // The reference without its flag: of its one octet a, or of its two octets a and b.
 fn reference(w: Width, a: u8, b: u8) -> u16

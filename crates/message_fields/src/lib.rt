@@ -1,4 +1,7 @@
-// What a message says, by value.
+// What a message says, by value, and what reading one is answered.
+ghost use mathlib.Core.Path.{_≡_};
+ghost use Prim.Native.Nat.{_≤_};
+ghost use Rattle.message_fields.specs.Width.{widthOf};
 use cause::Cause;
 use facility::Component;
 use message_types::Kind;
@@ -7,6 +10,15 @@ use message_types::Kind;
 pub enum Width {
     One,
     Two,
+}
+
+pub fn width_size(w: Width) -> usize
+    ensures { λ r. ⌜ (r ≡ widthOf w) × (1 ≤ r) × (r ≤ 2) ⌝ }
+{
+    match w {
+        Width::One => 1,
+        Width::Two => 2,
+    }
 }
 
 // The elements of a single octet that belong to us.

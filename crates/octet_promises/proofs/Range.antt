@@ -2,11 +2,10 @@
 use Prim.Native.Nat.{ℕ, _≤_}
 use mathlib.Core.List.{List}
 use mathlib.Core.Bool.{Bool, true, false, true≢false}
-use mathlib.Core.Logic.{_⊎_, inl, inr, ⊎-elim}
+use mathlib.Core.Logic.{_⊎_, inl, inr}
 use mathlib.Core.Path.{_≡_, refl, sym}
 use native.Mathlib.Omega.{arith}
 use borrow.Author.Tests.{lt-ltb, ltb-true}
-use lib.ListN.{length}
 use lib.Dec.{ltb}
 use Rattle.cause.specs.declared.Cause.{Cause}
 use Rattle.facility.specs.Facility.{invokeNumber}
@@ -16,19 +15,10 @@ use Rattle.message_fields.specs.declared.Single.{Single}
 use Rattle.message_fields.specs.declared.Facilities.{Facilities}
 use Rattle.message_fields.specs.declared.Message.{Message}
 use Rattle.writer.specs.Fitting.{referenceFits, plainFits, moreFits, levelFits, singleFits, causesFit, facilitiesFit, messageFits}
-use Rattle.octet_promises.specs.Promises.{highest, SingleIn, CauseIn, FacilitiesIn, UserElement, InRange}
+use Rattle.octet_promises.specs.Promises.{highest, SingleIn, CauseIn, FacilitiesIn, InRange}
 use Rattle.logic.proofs.Tests.{both}
-use Rattle.user_element.specs.Writable.{elementFitsOf}
 use Rattle.user_element.proofs.writable.Whole.{element-in, element-fits}
 use Rattle.writer.proofs.fitting.Ranges.{fits}
-
-pub user-in : (u : List ℕ) → elementFitsOf u ≡ true → (length u ≡ 0) ⊎ UserElement u
-user-in u h =
-    ⊎-elim inl (λ w. inr (record { least = w .least; most = w .most; first = w .first; second = w .second })) (element-in u h)
-
-user-fits : (u : List ℕ) → (length u ≡ 0) ⊎ UserElement u → elementFitsOf u ≡ true
-user-fits u e =
-    element-fits u (⊎-elim inl (λ w. inr (record { least = w .least; most = w .most; first = w .first; second = w .second })) e)
 
 -- at most 127 is below 128
 low : (v : ℕ) → ltb v 128 ≡ true → v ≤ 127
@@ -120,7 +110,7 @@ in-range w u h =
       single = single-in (w .header .kind) (w .single) (f .single);
       cause = cause-in (w .cause) (f .cause);
       facility = facility-in (w .facility) (f .facility);
-      user = user-in u (f .user);
+      user = element-in u (f .user);
     }
 
 pub range-fits : (w : Message) (u : List ℕ) → InRange w u → messageFits w u ≡ true
@@ -131,5 +121,5 @@ range-fits w u r =
       single-fits (w .header .kind) (w .single) (r .single),
       cause-fits (w .cause) (r .cause),
       facility-fits (w .facility) (r .facility),
-      user-fits u (r .user),
+      element-fits u (r .user),
     )

@@ -18,12 +18,13 @@ use Rattle.message_fields.specs.declared.Read.{Read}
 use Rattle.message_types.specs.Kind.{kindOf}
 use Rattle.elements.specs.Elements.{Element, Split, cut, whole, then, elements, isWhole}
 use Rattle.elements.specs.Meaning.{takenFrom}
-use Rattle.message.specs.Reading.{widthOf, headerOf, typedOf, headedOf, readOf}
+use Rattle.message.specs.Reading.{headerOf, typedOf, headedOf, readOf}
 use Rattle.message_fields.specs.Numbers.{faultNumber, readNumber}
 use Rattle.octet_promises.specs.Promises.{Whole, none, alone, announced, readRows}
 use Rattle.elements.proofs.Splitting as split
 use Rattle.elements.proofs.Turns.{whole-then}
 use Rattle.logic.proofs.Decide.{by-cond}
+use Rattle.message_fields.specs.Width.{widthOf}
 
 splits : {l : List ℕ} → Whole l → (p : ℕ) → isWhole (elements p 0 l) ≡ true
 unfolding elements

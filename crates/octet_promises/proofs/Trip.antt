@@ -30,14 +30,14 @@ use Rattle.message_fields.specs.declared.Read.{Read}
 use Rattle.message_types.specs.Kind.{kindOf, kindOctet, classOf}
 use Rattle.elements.specs.Elements.{element, elements, counted}
 use Rattle.elements.specs.Single.{moreIn, levelIn, singleOf}
-use Rattle.elements.specs.Found.{oneMore, causeSeen}
+use Rattle.elements.specs.SoFar.{oneMore, causeSeen}
 use Rattle.elements.specs.Meaning.{takenFrom}
 use Rattle.message.specs.Reading.{readOf}
 use Rattle.message.specs.Parts.{partOf, userUserOf}
 use Rattle.elements.specs.Scan.{Adds, takenWith}
 use Rattle.writer.specs.Fitting.{referenceFits, plainFits, moreFits, classFits, singleFits, causesFit, facilitiesFit, messageFits}
-use Rattle.writer.specs.Writing.{topOf, headerOctets, headerSize, singleOctets, causesOctets, facilitiesOctets, frontOctets, messageOctets}
-use Rattle.octet_promises.specs.Promises.{UserElement, placeFor}
+use Rattle.writer.specs.Writing.{topOf, headerOctets, singleOctets, causesOctets, facilitiesOctets, frontOctets, messageOctets}
+use Rattle.octet_promises.specs.Promises.{placeFor}
 use Rattle.elements.proofs.Splitting.{alone, lengthy}
 use Rattle.elements.proofs.Noting.{adds-cause, adds-facility, adds-place, adds-single}
 use Rattle.elements.proofs.Turns.{nothing, goingOn, at-first, at-last, notes}
@@ -45,7 +45,9 @@ use Rattle.message.proofs.Heading.{headed-known}
 use Rattle.logic.proofs.Tests.{both}
 use Rattle.writer.proofs.fitting.Ranges.{fits}
 use Rattle.writer.proofs.sizes.Sizes.{small, front-is, message-is}
-use Rattle.octet_promises.proofs.Range.{user-in}
+use Rattle.user_element.proofs.writable.Whole.{element-in}
+use Rattle.message_fields.specs.Width.{headerSize}
+use Rattle.user_element.specs.Writable.{UserElement}
 
 -- THE HEADER
 kind-back : (k : Kind) → kindOf (kindOctet k) ≡ Typed.Known k
@@ -185,7 +187,7 @@ module _ (w : Message) (u : List ℕ) (h : messageFits w u ≡ true) where
   short =
       let s = small w in
       let f = front-is w in
-      ⊎-elim (λ z. omega (arith, message-is w u)) (λ e. let m = e .most in omega (arith, message-is w u)) (user-in u (fits w u h .user))
+      ⊎-elim (λ z. omega (arith, message-is w u)) (λ e. let m = e .most in omega (arith, message-is w u)) (element-in u (fits w u h .user))
 
   abbrev head : ℕ
   head = headerSize (w .header .width)
@@ -224,7 +226,7 @@ module _ (w : Message) (u : List ℕ) (h : messageFits w u ≡ true) where
       ∙ single-read d (w .single) head after-single _ refl (f .single)
       ∙ cause-read d (w .cause) after-single after-cause (w .single) _ refl (f .cause)
       ∙ facility-read d (w .facility) after-cause after-facility (w .single) (seenFor (w .cause)) u refl (f .facility)
-      ∙ user-read d u after-facility (w .single) (seenFor (w .cause)) (w .facility) (user-in u (f .user))
+      ∙ user-read d u after-facility (w .single) (seenFor (w .cause)) (w .facility) (element-in u (f .user))
       ∙ simp (cause-same (w .cause), place-same u))
 
   pub element-back : userUserOf (messageOctets w u) ≡ u

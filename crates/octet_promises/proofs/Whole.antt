@@ -18,11 +18,12 @@ use Rattle.message_types.specs.Kind.{kindOf}
 use Rattle.elements.specs.Elements.{element, Split, cut, whole, then, elements, locking, shifting, counted}
 use Rattle.elements.specs.Elements as el
 use Rattle.elements.specs.Meaning.{firstPlace, readingOf, takenFrom}
-use Rattle.message.specs.Reading.{widthOf, headerOf, typedOf, headedOf, readOf}
+use Rattle.message.specs.Reading.{headerOf, typedOf, headedOf, readOf}
 use Rattle.message.specs.Parts.{placeIn, userUserOf}
 use Rattle.octet_promises.specs.Promises as promise
 use Rattle.elements.proofs.Splitting.{short}
 use Rattle.logic.proofs.Decide.{by-cond}
+use Rattle.message_fields.specs.Width.{widthOf}
 
 module _ (m : List ℕ) where
   -- an element with a length lies in m as it was split off

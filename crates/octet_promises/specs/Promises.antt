@@ -25,6 +25,7 @@ use Rattle.message.specs.Parts.{placeIn, userUserOf}
 use Rattle.writer.specs.Fitting.{messageFits}
 use Rattle.writer.specs.Writing.{frontOctets, messageOctets}
 use Rattle.message_fields.specs.Numbers.{readNumber}
+use Rattle.user_element.specs.Writable.{UserElement}
 
 -- READS. Octets that are whole elements, one after another.
 pub data Whole : List ℕ → Type 0 where
@@ -85,12 +86,6 @@ FacilitiesIn Facilities.Zero = Unit {0}
 FacilitiesIn (Facilities.One a) = invokeNumber a ≤ 127
 FacilitiesIn (Facilities.Two a b) = (invokeNumber a ≤ 127) × (invokeNumber b ≤ 127)
 FacilitiesIn (Facilities.Three a b c) = (invokeNumber a ≤ 127) × (invokeNumber b ≤ 127) × (invokeNumber c ≤ 127)
-
-pub record UserElement (u : List ℕ) : Type 0 where
-  pub least : 2 ≤ length u
-  pub most : length u ≤ 131
-  pub first : getD u 0 0 ≡ 0x7E
-  pub second : getD u 1 0 ≡ length u - 2
 
 pub record InRange (w : Message) (u : List ℕ) : Type 0 where
   pub reference : w .header .reference ≤ highest (w .header .width)

@@ -103,19 +103,13 @@ toCalledOf lacking requests element = cond lacking Sent.Absent (sayingOf Kind.Se
 unfoldable pub setupCarriesOf : Rights → Requests → Seen → Bool
 setupCarriesOf rights q seen = not (lacksOf rights q) && remainsOf (standingsOf rights q seen .one)
 
--- a SETUP that is taken, where the first argument says whether the rights lack a required service and carried whether the message goes on with
--- service 1
-abbrev pub decidedOf : Bool → Standings → Seen → Bool → Facilities → Facilities → Opening
-decidedOf lacking standings seen carried refusals requests =
-    record {
-      phase = setupPhaseOf lacking;
-      standings = standings;
-      note = notedOf seen carried;
-      calling = toCallerOf lacking refusals;
-      called = toCalledOf lacking requests (goesOutOf seen carried);
-    }
-
+-- what a SETUP that is taken opens with
 abbrev pub openingOf : Rights → Requests → Seen → Opening
 openingOf rights q seen =
-    decidedOf (lacksOf rights q) (standingsOf rights q seen) seen (setupCarriesOf rights q seen) (networkRefusalsOf rights q)
-    (passedRequestsOf rights q)
+    record {
+      phase = setupPhaseOf (lacksOf rights q);
+      standings = standingsOf rights q seen;
+      note = notedOf seen (setupCarriesOf rights q seen);
+      calling = toCallerOf (lacksOf rights q) (networkRefusalsOf rights q);
+      called = toCalledOf (lacksOf rights q) (passedRequestsOf rights q) (goesOutOf seen (setupCarriesOf rights q seen));
+    }

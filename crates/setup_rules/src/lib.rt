@@ -1,6 +1,6 @@
 // What SETUP asks for, held against the rights: how each service then stands, and what is said of it to each user.
 ghost use mathlib.Core.Path.{_≡_};
-ghost use Rattle.setup_rules.specs.Requests.{askedStandingOf, firstStandingOf, lackingOf, passedRequestOf, networkRefusalOf, decidedOf, openingOf};
+ghost use Rattle.setup_rules.specs.Requests.{askedStandingOf, firstStandingOf, lackingOf, passedRequestOf, networkRefusalOf, standingsOf, lacksOf, networkRefusalsOf, passedRequestsOf, openingOf};
 use cause::Cause;
 use cause::NOT_SUBSCRIBED;
 use message_types::Kind;
@@ -110,20 +110,70 @@ fn network_refusal(q: Request, had: bool) -> Said
     }
 }
 
-// `lacks` says whether the rights lack a required service, `carried` whether the message goes on with service 1.
-fn decided(
-    lacks: bool,
-    standings: Standings,
-    s: Seen,
-    carried: bool,
-    refusals: Facilities,
-    passed: Facilities,
-) -> Opening
-    ensures { λ r. ⌜ r ≡ decidedOf lacks standings s carried refusals passed ⌝ }
+// How each service stands after SETUP.
+fn standings_of(rights: Rights, q: Requests, s: Seen) -> Standings
+    ensures { λ r. ⌜ r ≡ standingsOf rights q s ⌝ }
 {
+    let one = q.one;
+    let two = q.two;
+    let three = q.three;
+    Standings {
+        one: first_standing(one, s, has(rights, Service::One)),
+        two: asked_standing(two, has(rights, Service::Two)),
+        three: asked_standing(three, has(rights, Service::Three)),
+    }
+}
+
+// Whether the rights lack a required service.
+fn lacks(rights: Rights, q: Requests) -> bool
+    ensures { λ r. ⌜ r ≡ lacksOf rights q ⌝ }
+{
+    let one = q.one;
+    let two = q.two;
+    let three = q.three;
+    lacking(one, has(rights, Service::One))
+        | lacking(two, has(rights, Service::Two))
+        | lacking(three, has(rights, Service::Three))
+}
+
+fn network_refusals(rights: Rights, q: Requests) -> Facilities
+    ensures { λ r. ⌜ r ≡ networkRefusalsOf rights q ⌝ }
+{
+    let one = q.one;
+    let two = q.two;
+    let three = q.three;
+    Facilities {
+        one: network_refusal(one, has(rights, Service::One)),
+        two: network_refusal(two, has(rights, Service::Two)),
+        three: network_refusal(three, has(rights, Service::Three)),
+    }
+}
+
+fn passed_requests(rights: Rights, q: Requests) -> Facilities
+    ensures { λ r. ⌜ r ≡ passedRequestsOf rights q ⌝ }
+{
+    let one = q.one;
+    let two = q.two;
+    let three = q.three;
+    Facilities {
+        one: passed_request(one, has(rights, Service::One)),
+        two: passed_request(two, has(rights, Service::Two)),
+        three: passed_request(three, has(rights, Service::Three)),
+    }
+}
+
+// The element goes on where the message does and service 1 remains.
+pub fn opens(rights: Rights, q: Requests, s: Seen) -> Opening
+    ensures { λ r. ⌜ r ≡ openingOf rights q s ⌝ }
+{
+    let standings = standings_of(rights, q, s);
+    let one = standings.one;
+    let lacking = lacks(rights, q);
+    let carried = !lacking & remains(one);
     let note = noted(s, carried);
-    if lacks {
-        Opening {
+    let refusals = network_refusals(rights, q);
+    if lacking {
+        return Opening {
             phase: Phase::Ended,
             standings: standings,
             note: note,
@@ -134,49 +184,18 @@ fn decided(
                 false,
             ),
             called: Sent::Absent,
-        }
-    } else {
-        Opening {
-            phase: Phase::Requested,
-            standings: standings,
-            note: note,
-            calling: saying(Kind::CallProceeding, Cause::Absent, refusals, false),
-            called: saying(Kind::Setup, Cause::Absent, passed, goes_out(s, carried)),
-        }
+        };
     }
-}
-
-// The element goes on where the message does and service 1 remains.
-pub fn opens(rights: Rights, q: Requests, s: Seen) -> Opening
-    ensures { λ r. ⌜ r ≡ openingOf rights q s ⌝ }
-{
-    let one = q.one;
-    let two = q.two;
-    let three = q.three;
-    let has_one = has(rights, Service::One);
-    let has_two = has(rights, Service::Two);
-    let has_three = has(rights, Service::Three);
-    let lacks = lacking(one, has_one) | lacking(two, has_two) | lacking(three, has_three);
-    let first = first_standing(one, s, has_one);
-    let carried = !lacks & remains(first);
-    decided(
-        lacks,
-        Standings {
-            one: first,
-            two: asked_standing(two, has_two),
-            three: asked_standing(three, has_three),
-        },
-        s,
-        carried,
-        Facilities {
-            one: network_refusal(one, has_one),
-            two: network_refusal(two, has_two),
-            three: network_refusal(three, has_three),
-        },
-        Facilities {
-            one: passed_request(one, has_one),
-            two: passed_request(two, has_two),
-            three: passed_request(three, has_three),
-        },
-    )
+    Opening {
+        phase: Phase::Requested,
+        standings: standings,
+        note: note,
+        calling: saying(Kind::CallProceeding, Cause::Absent, refusals, false),
+        called: saying(
+            Kind::Setup,
+            Cause::Absent,
+            passed_requests(rights, q),
+            goes_out(s, carried),
+        ),
+    }
 }

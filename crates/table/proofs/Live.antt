@@ -6,7 +6,7 @@ use mathlib.Core.List.{List, [], _∷_}
 use Rattle.call.specs.declared.Call.{Call}
 use Rattle.table.specs.declared.choice.Spot.{Spot}
 use Rattle.table.specs.declared.sought.Sought.{Sought}
-use Rattle.table.specs.Look.{liveAs}
+use Rattle.table.specs.Sought.{liveAs}
 use Rattle.table.specs.First.{firstFrom}
 use Rattle.table.specs.Table.{findFrom}
 

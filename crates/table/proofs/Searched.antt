@@ -10,7 +10,7 @@ use Rattle.call.specs.declared.Call.{Call}
 use Rattle.call.specs.Sound.{freshCall, soundOf}
 use Rattle.phases.specs.Phase.{liveOf}
 use Rattle.table.specs.declared.sought.Sought.{Sought}
-use Rattle.table.specs.Look.{liveAs, isAt, searchFromOf, faultOf}
+use Rattle.table.specs.Sought.{liveAs, isAt, searchFromOf, faultOf}
 use Rattle.table.specs.First.{firstFrom}
 use Rattle.table.specs.Table.{findFrom, heldIn, callsSound}
 use Rattle.table.specs.declared.choice.Spot.{Spot}

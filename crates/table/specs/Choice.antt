@@ -8,6 +8,9 @@ use Rattle.table.specs.declared.verdict.Verdict.{Verdict}
 use Rattle.table.specs.declared.choice.Choice.{Choice}
 use Rattle.table.specs.declared.choice.Wanted.{Wanted}
 use Rattle.table.specs.declared.choice.Spot.{Spot}
+use mathlib.Core.List.{List}
+use Rattle.call.specs.declared.Call.{Call}
+use Rattle.table.specs.Table.{tableSound, findFrom, placeFrom}
 
 -- what an event wants of the table: SETUP a place under its own reference, with "reference or rights out of range" or not; others that of a live call
 abbrev pub wantedOf : Event → Wanted
@@ -60,3 +63,6 @@ chooseOf whole e held free =
     cond whole
     (cond (opensOf e) (cond (setupRangedOf e) (newPlaceOf held free) (Choice.Refused (Verdict.Heard Answer.OutOfRange))) (oldPlaceOf held))
     (Choice.Refused (Verdict.Heard Answer.Unsound))
+
+unfoldable pub chosenOf : List Call → ℕ → Event → Choice
+chosenOf t n e = chooseOf (tableSound t) e (findFrom t 0 (meantReferenceOf n e)) (placeFrom t 0)

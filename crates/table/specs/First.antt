@@ -6,7 +6,7 @@ use mathlib.Core.List.{List, [], _∷_}
 use Rattle.call.specs.declared.Call.{Call}
 use Rattle.table.specs.declared.choice.Spot.{Spot}
 use Rattle.table.specs.declared.sought.Sought.{Sought}
-use Rattle.table.specs.Look.{meetsOf}
+use Rattle.table.specs.Sought.{meetsOf}
 
 -- the first record that meets what is sought, where the first record has the place i
 abbrev pub firstFrom : List Call → ℕ → Sought → Spot

@@ -8,7 +8,7 @@ use Rattle.call.specs.Sound.{freshCall}
 use Rattle.table.specs.declared.choice.Choice.{Choice}
 use Rattle.table.specs.declared.plan.Looked.{Looked}
 use Rattle.table.specs.declared.plan.Change.{Change}
-use Rattle.table.specs.Chosen.{chosenOf}
+use Rattle.table.specs.Choice.{chosenOf}
 
 abbrev pub lookAt : List Call → Choice → Looked
 lookAt t (Choice.At i) = Looked.At i (getD t i freshCall)

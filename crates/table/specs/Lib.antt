@@ -2,10 +2,8 @@ pub mod First
 pub mod Table
 pub mod Halves
 pub mod Step
-pub mod Chosen
 pub mod Verdict
-pub mod Look
 pub mod Choice
 pub mod Settle
 pub mod Plan
-pub mod Decided
+pub mod Sought

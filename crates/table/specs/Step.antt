@@ -7,8 +7,8 @@ use Rattle.event.specs.declared.Event.{Event}
 use Rattle.call.specs.Sound.{freshCall}
 use Rattle.table.specs.declared.choice.Choice.{Choice}
 use Rattle.table.specs.declared.settle.Outcome.{Outcome}
-use Rattle.table.specs.Chosen.{chosenOf}
 use Rattle.table.specs.Settle.{settledOf, tableRefusalOf}
+use Rattle.table.specs.Choice.{chosenOf}
 
 abbrev pub outcomeAt : List Call → Choice → Event → List ℕ → Outcome
 outcomeAt t (Choice.At i) e element = settledOf (getD t i freshCall) e element .outcome

@@ -8,7 +8,7 @@ use Rattle.call.specs.declared.Call.{Call}
 use Rattle.call.specs.Sound.{soundOf}
 use Rattle.phases.specs.Phase.{liveOf}
 use Rattle.table.specs.declared.choice.Spot.{Spot}
-use Rattle.table.specs.Look.{liveAs, freeOf}
+use Rattle.table.specs.Sought.{liveAs, freeOf}
 
 -- "a lent table of at most 32 records"
 abbrev pub greatestTable : ℕ

@@ -1,8 +1,7 @@
 // What an event makes of the table, decided by value: what is put there, and what is answered.
 ghost use mathlib.Core.Path.{_≡_};
-ghost use Rattle.table.specs.Plan.{rowOf, recordOf};
+ghost use Rattle.table.specs.Plan.{rowOf, recordOf, planOf};
 ghost use Rattle.table.specs.declared.plan.Looked.{Looked};
-ghost use Rattle.table.specs.Decided.{planOf};
 use crate::settle::Outcome;
 use crate::settle::refusal;
 use crate::settle::settles;

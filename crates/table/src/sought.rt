@@ -1,6 +1,6 @@
 // One record of a table, looked at by value.
 ghost use mathlib.Core.Path.{_≡_};
-ghost use Rattle.table.specs.Look.{meetsOf, isAt, faultOf, searchFromOf};
+ghost use Rattle.table.specs.Sought.{meetsOf, isAt, faultOf, searchFromOf};
 use crate::choice::Spot;
 use call::Call;
 

@@ -2,7 +2,7 @@
 ghost use mathlib.Core.Path.{_≡_};
 ghost use Rattle.table.specs.Halves.{lookOf, committed};
 ghost use Rattle.table.specs.Step.{stepOutcome, stepTable};
-ghost use Rattle.table.specs.Chosen.{chosenOf};
+ghost use Rattle.table.specs.Choice.{chosenOf};
 use crate::call_at;
 use crate::choice::Choice;
 use crate::choice::choose;

@@ -15,10 +15,9 @@ use Rattle.call.specs.Step.{stepOf}
 use Rattle.table.specs.declared.choice.Choice.{Choice}
 use Rattle.table.specs.declared.verdict.Verdict.{Verdict}
 use Rattle.table.specs.declared.settle.Outcome.{Outcome}
-use Rattle.table.specs.Look.{liveAs}
+use Rattle.table.specs.Sought.{liveAs}
 use Rattle.table.specs.Table.{tableSound}
-use Rattle.table.specs.Chosen.{chosenOf}
-use Rattle.table.specs.Choice.{meantReferenceOf, opensOf, setupRangedOf}
+use Rattle.table.specs.Choice.{meantReferenceOf, opensOf, setupRangedOf, chosenOf}
 use Rattle.table.specs.Verdict.{verdictNumber}
 use Rattle.table.specs.Settle.{subjectOf, heardOutcomeOf, tableRefusalOf, settledOf}
 use Rattle.table.specs.Step.{outcomeAt, tableAt, stepOutcome, stepTable}

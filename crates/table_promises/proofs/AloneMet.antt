@@ -14,10 +14,9 @@ use Rattle.rights.specs.Rights.{rightsFitOf, referenceFitsOf, noRights}
 use Rattle.services.specs.Standing.{remainsOf, noServices}
 use Rattle.setup_rules.specs.Requests.{firstStandingOf, standingsOf, lacksOf, setupPhaseOf, setupCarriesOf}
 use Rattle.answering_rules.specs.Fates.{alertingFatesOf}
-use Rattle.answering_rules.specs.Consequences.{failedOf, settlesOf}
+use Rattle.answering_rules.specs.Effects.{failedOf, settlesOf}
 use Rattle.facility_rules.specs.Asking.{nobodyAsks}
-use Rattle.flow_meter.specs.Meters.{emptyMeters}
-use Rattle.flow_meter.specs.Ticking.{refillsOf}
+use Rattle.flow_meter.specs.CallMeters.{emptyMeters, refillsOf}
 use Rattle.call.specs.Sound.{freshCall, fieldsFitOf, soundOf, inPhaseOf}
 use Rattle.call.specs.Reply.{barOf, refusedOf, heardOf, replyOf}
 use Rattle.call.specs.Setup.{filledOf, proceedsOf, setupOf}
@@ -26,8 +25,7 @@ use Rattle.call.specs.Information.{metersOf, informationPassageOf, carriedOf, w
 use Rattle.call.specs.Disconnect.{endsOf, releaseCompleteOf}
 use Rattle.call.specs.Tick.{runsOf, passesTickOf, tickOf}
 use Rattle.table.specs.Table.{tableSound}
-use Rattle.table.specs.Chosen.{chosenOf}
-use Rattle.table.specs.Choice.{chooseOf}
+use Rattle.table.specs.Choice.{chooseOf, chosenOf}
 use Rattle.table.specs.Settle.{subjectOf, recordKeptOf, heardOutcomeOf, tableRefusalOf, settledOf}
 use Rattle.table.specs.Step.{stepOutcome, stepTable}
 use Rattle.table_promises.specs.Alone.{AllFresh, Met, Needed}

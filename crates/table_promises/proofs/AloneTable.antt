@@ -18,10 +18,9 @@ use Rattle.call.specs.Sound.{freshCall}
 use Rattle.table.specs.declared.choice.Choice.{Choice}
 use Rattle.table.specs.declared.verdict.Verdict.{Verdict}
 use Rattle.table.specs.declared.choice.Spot.{Spot}
-use Rattle.table.specs.Look.{liveAs, isAt}
+use Rattle.table.specs.Sought.{liveAs, isAt}
 use Rattle.table.specs.Table.{findFrom, placeFrom, heldIn, tableSound}
-use Rattle.table.specs.Chosen.{chosenOf}
-use Rattle.table.specs.Choice.{meantReferenceOf, opensOf, setupRangedOf, newPlaceOf, oldPlaceOf, chooseOf}
+use Rattle.table.specs.Choice.{meantReferenceOf, opensOf, setupRangedOf, newPlaceOf, oldPlaceOf, chooseOf, chosenOf}
 use Rattle.table.specs.Settle.{settledOf}
 use Rattle.table.specs.Step.{tableAt, stepTable}
 use Rattle.call_promises.specs.Ranges.{InRangeCall}

@@ -13,7 +13,7 @@ use Rattle.phases.specs.declared.Phase.{Phase}
 use Rattle.phases.specs.Phase.{liveOf}
 use Rattle.call.specs.declared.Call.{Call}
 use Rattle.call.specs.Sound.{freshCall, soundOf, fieldsFitOf}
-use Rattle.table.specs.Look.{liveAs, isAt}
+use Rattle.table.specs.Sought.{liveAs, isAt}
 use Rattle.table.specs.Table.{findFrom, placeFrom, heldIn, callsSound, tableSound}
 use Rattle.table_promises.specs.Table.{Free, LiveAt, Held, Full, Faulty, over, twins, unsound, heldCall, Lowest}
 use Rattle.table.specs.declared.choice.Spot.{Spot}

@@ -17,10 +17,9 @@ use Rattle.table.specs.declared.choice.Choice.{Choice}
 use Rattle.table.specs.declared.verdict.Verdict.{Verdict}
 use Rattle.table.specs.declared.choice.Wanted.{Wanted}
 use Rattle.table.specs.declared.choice.Spot.{Spot}
-use Rattle.table.specs.Choice.{wantedOf, ownOr, isNew, meantReferenceOf, opensOf, setupRangedOf, chooseOf}
+use Rattle.table.specs.Choice.{wantedOf, ownOr, isNew, meantReferenceOf, opensOf, setupRangedOf, chooseOf, chosenOf}
 use Rattle.table.specs.Settle.{subjectOf, recordKeptOf, heardOutcomeOf, tableRefusalOf, settledOf}
 use Rattle.table.specs.Table.{tableSound, findFrom, placeFrom}
-use Rattle.table.specs.Chosen.{chosenOf}
 use Rattle.table.specs.Step.{outcomeAt, tableAt, stepOutcome, stepTable}
 use Rattle.table_promises.specs.Table.{Held}
 use Rattle.logic.proofs.Decide.{never}

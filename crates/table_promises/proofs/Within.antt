@@ -9,10 +9,9 @@ use lib.ListN.{length}
 use Rattle.answer.specs.declared.Answer.{Answer}
 use Rattle.call.specs.declared.Call.{Call}
 use Rattle.event.specs.declared.Event.{Event}
-use Rattle.table.specs.Look.{liveAs, freeOf}
+use Rattle.table.specs.Sought.{liveAs, freeOf}
 use Rattle.table.specs.Table.{findFrom, placeFrom, tableSound}
-use Rattle.table.specs.Chosen.{chosenOf}
-use Rattle.table.specs.Choice.{meantReferenceOf, opensOf, setupRangedOf, newPlaceOf, oldPlaceOf, chooseOf}
+use Rattle.table.specs.Choice.{meantReferenceOf, opensOf, setupRangedOf, newPlaceOf, oldPlaceOf, chooseOf, chosenOf}
 use Rattle.table.specs.declared.choice.Spot.{Spot}
 use Rattle.table.specs.declared.choice.Choice.{Choice}
 use Rattle.table.specs.declared.verdict.Verdict.{Verdict}

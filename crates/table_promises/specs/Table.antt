@@ -13,7 +13,7 @@ use Rattle.event.specs.declared.Event.{Event}
 use Rattle.call.specs.Sound.{freshCall}
 use Rattle.call.specs.Step.{stepOf}
 use Rattle.call_promises.specs.Ranges.{ReferenceInRange, RightsInRange, InRangeCall}
-use Rattle.table.specs.Look.{liveAs}
+use Rattle.table.specs.Sought.{liveAs}
 use Rattle.table.specs.Verdict.{verdictNumber}
 use Rattle.table.specs.Step.{stepOutcome, stepTable}
 

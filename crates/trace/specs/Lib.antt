@@ -1,5 +1,4 @@
 pub mod Reading
-pub mod Recorded
 pub mod Kind
 pub mod Field
 pub mod Values

@@ -16,6 +16,7 @@ use Rattle.trace.specs.declared.Record.{Record}
 use Rattle.trace.specs.Kind.{recordKindOf, sizeOf}
 use Rattle.trace.specs.Field.{fieldSize, fieldFitsOf}
 use Rattle.trace.specs.Values.{flagOf, sideOf, requestOf, givenOf, whatOf}
+use Rattle.memory.specs.Stretch.{stretchOf}
 
 -- the paper's number for each fault
 abbrev pub traceFaultNumber : Fault → ℕ
@@ -110,3 +111,7 @@ namedOf (NamedKind.Known k) t =
 -- "31, 32, 33: trace: unknown kind; record cut short; field out of range; in this order". A trace may end between records.
 unfoldable pub recordOf : List ℕ → Record
 recordOf t = cond (eqb (length t) 0) Record.End (namedOf (recordKindOf (getD t 0 0)) t)
+
+-- the element's octets, as the part of the trace that they are
+unfoldable pub elementOf : Entry → List ℕ → List ℕ
+elementOf e t = stretchOf (e .at) (e .count) t

@@ -1,6 +1,7 @@
 // The fields of a body: small numbers, and the element with the zeros after it.
 ghost use mathlib.Core.Path.{_≡_};
 ghost use Rattle.trace.specs.Field.{blankOf, fieldFitsOf};
+use memory::octet::wide;
 
 // The octets that an element field has.
 const FIELD: usize = 132;
@@ -17,12 +18,6 @@ fn blank(s: &[u8]) -> bool
         i += 1;
     }
     true
-}
-
-fn wide(x: u8) -> usize
-    ensures { λ r. ⌜ r ≡ x ⌝ }
-{
-    x as usize
 }
 
 // Whether an element field has its form: n, the n octets beginning 126 and n - 2, then zeros.

@@ -4,8 +4,7 @@ ghost use Prim.Native.Nat.{_≤_, _<_, _+_};
 ghost use lib.ListN.{length};
 ghost use Rattle.trace.specs.Kind.{sizeOf};
 ghost use Rattle.trace.specs.declared.kind.NamedKind.{NamedKind};
-ghost use Rattle.trace.specs.Reading.{recordReferenceOf, fieldAtOf, placeOf, closesOf, rangedOf, rightsOf, namedOf, requestsOf, answersOf, eventOf, countOf, entryOf, recordOf};
-ghost use Rattle.trace.specs.Recorded.{elementOf};
+ghost use Rattle.trace.specs.Reading.{recordReferenceOf, fieldAtOf, placeOf, closesOf, rangedOf, rightsOf, namedOf, requestsOf, answersOf, eventOf, countOf, entryOf, recordOf, elementOf};
 use crate::field::field_fits;
 use crate::kind::NamedKind;
 use crate::kind::RecordKind;
@@ -17,6 +16,8 @@ use crate::values::request_in;
 use crate::values::side_in;
 use crate::values::what_in;
 use event::Event;
+use memory::octet::wide;
+use memory::octet::wide16;
 use memory::stretch::stretch;
 use rights::Rights;
 use services::Answers;
@@ -46,18 +47,6 @@ pub enum Record {
     End,
     Taken(Entry),
     Refused(Fault),
-}
-
-fn wide16(x: u8) -> u16
-    ensures { λ r. ⌜ (r ≡ x) × (r < 256) ⌝ }
-{
-    x as u16
-}
-
-fn wide(x: u8) -> usize
-    ensures { λ r. ⌜ (r ≡ x) × (r < 256) ⌝ }
-{
-    x as usize
 }
 
 fn reference(t: &[u8]) -> u16

@@ -16,7 +16,7 @@ use Rattle.answering_rules.specs.declared.Fates.{Fates}
 use Rattle.services.specs.declared.Requests.{Requests}
 use Rattle.user_element.specs.Element.{wholeOf}
 use Rattle.setup_rules.specs.Requests.{lacksOf, toCallerOf, toCalledOf}
-use Rattle.answering_rules.specs.Consequences.{failedOf}
+use Rattle.answering_rules.specs.Effects.{failedOf}
 use Rattle.answer.specs.declared.Answer.{Answer}
 use Rattle.message_types.specs.declared.Kind.{Kind}
 use Rattle.sent.specs.declared.Level.{Level}
@@ -33,19 +33,19 @@ use Rattle.call.specs.Reply.{barOf, refusedOf, heardOf, replyOf}
 use Rattle.call.specs.Setup.{proceedsOf, setupOf}
 use Rattle.call.specs.Answering.{goesOnOf, clearsOf, answeringOf, answeredOf, alertingOf, connectOf}
 use Rattle.call.specs.Information.{carriedOf, withElementOf, informationOf}
-use Rattle.facility_rules.specs.Telling.{aboutThreeOf}
+use Rattle.facility_rules.specs.Messages.{aboutThreeOf}
 use Rattle.call.specs.Facility.{passesFacilityOf, facilityOf}
 use Rattle.call.specs.Disconnect.{passedOnOf, disconnectOf, endsOf, releaseCompleteOf}
-use Rattle.flow_meter.specs.Ticking.{readyOf}
 use Rattle.call.specs.Tick.{passesTickOf, tickOf}
 use Rattle.call.specs.Step.{notAnEventOf, stepOf}
 use Rattle.table.specs.declared.choice.Choice.{Choice}
 use Rattle.table.specs.declared.settle.Outcome.{Outcome}
-use Rattle.table.specs.Chosen.{chosenOf}
 use Rattle.table.specs.Settle.{settledOf, tableRefusalOf, answeringOf as settledOutcome}
 use Rattle.table.specs.Step.{outcomeAt, stepOutcome}
 use Rattle.logic.proofs.Decide.{by-cond}
 use Rattle.call_promises.proofs.Failing.{alerting-cause, connect-cause}
+use Rattle.flow_meter.specs.CallMeters.{readyOf}
+use Rattle.table.specs.Choice.{chosenOf}
 
 -- causes, messages and replies with causes up to 127
 abbrev pub CauseIn : Cause → Type 0

@@ -15,8 +15,7 @@ use Rattle.trace.specs.declared.Entry.{Entry}
 use Rattle.trace.specs.declared.Fault.{Fault}
 use Rattle.trace.specs.declared.Record.{Record}
 use Rattle.trace.specs.Kind.{recordKindOf, sizeOf}
-use Rattle.trace.specs.Reading.{recordReferenceOf, fieldAtOf, placeOf, closesOf, rangedOf, rightsOf, requestsOf, answersOf, eventOf, countOf, entryOf, namedOf, recordOf}
-use Rattle.trace.specs.Recorded.{elementOf}
+use Rattle.trace.specs.Reading.{recordReferenceOf, fieldAtOf, placeOf, closesOf, rangedOf, rightsOf, requestsOf, answersOf, eventOf, countOf, entryOf, namedOf, recordOf, elementOf}
 use Rattle.trace_promises.specs.Records.{Field, InRange}
 use Rattle.trace.proofs.Sizes.{least}
 use Rattle.trace_promises.proofs.Ranged.{in-range}

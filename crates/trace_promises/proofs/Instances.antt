@@ -13,30 +13,27 @@ use Rattle.services.specs.Standing.{remainsOf, noServices}
 use Rattle.setup_rules.specs.Requests.{firstStandingOf, standingsOf, lacksOf, passedRequestsOf, networkRefusalsOf, setupPhaseOf, toCallerOf, toCalledOf, setupCarriesOf}
 use Rattle.facility_rules.specs.Asking.{nobodyAsks}
 use Rattle.sent.specs.Message.{sayingOf, onlyIfOf}
-use Rattle.flow_meter.specs.Meters.{emptyMeters}
-use Rattle.flow_meter.specs.Ticking.{refillsOf, readyOf}
+use Rattle.flow_meter.specs.CallMeters.{emptyMeters, refillsOf, readyOf}
 use Rattle.call.specs.Sound.{freshCall, fieldsFitOf, soundOf}
 use Rattle.call.specs.Reply.{barOf, refusedOf, heardOf}
 use Rattle.call.specs.Setup.{filledOf, proceedsOf, setupOf}
 use Rattle.call.specs.Information.{metersOf}
 use Rattle.call.specs.Tick.{runsOf, passesTickOf, tickOf}
 use Rattle.table.specs.Table.{tableSound}
-use Rattle.table.specs.Chosen.{chosenOf}
-use Rattle.table.specs.Choice.{chooseOf}
+use Rattle.table.specs.Choice.{chooseOf, chosenOf}
 use Rattle.table.specs.Settle.{subjectOf, recordKeptOf, heardOutcomeOf, tableRefusalOf, settledOf}
 use Rattle.table.specs.Step.{stepOutcome, stepTable}
 use Rattle.trace.specs.Kind.{recordKindOf}
 use Rattle.trace.specs.Field.{blankOf, fieldFitsOf}
 use Rattle.trace.specs.Values.{flagOf, requestOf}
-use Rattle.trace.specs.Reading.{recordReferenceOf, fieldAtOf, closesOf, rightsOf, requestsOf, countOf, entryOf, recordOf}
-use Rattle.trace.specs.Recorded.{elementOf}
+use Rattle.trace.specs.Reading.{recordReferenceOf, fieldAtOf, closesOf, rightsOf, requestsOf, countOf, entryOf, recordOf, elementOf}
 use Rattle.logic.proofs.Tests.{both}
 use Rattle.text.specs.Decimal.{digitsOf, decimalOf}
 use Rattle.text.specs.Hex.{digitOf}
 use Rattle.trace_lines.specs.Items.{itemsOf, commas, joined}
 use Rattle.trace_lines.specs.Line.{numberColumns, typeColumns, lineOf}
-use Rattle.trace_run.specs.Fronts.{frontOf}
-use Rattle.trace_run.specs.Entries.{columnsOf}
+use Rattle.trace_run.specs.Front.{frontOf}
+use Rattle.trace_run.specs.Entry.{columnsOf}
 use Rattle.trace_run.specs.Run.{turnedAt, lineAt, runIn, traceRunOf}
 use Rattle.trace_promises.specs.WholeRun.{Octets, Run}
 use Rattle.trace_promises.specs.Instances.{onePart, otherPart, endLine, lines, strangeLine, Ran, Met}

@@ -22,15 +22,14 @@ use Rattle.trace.specs.declared.kind.RecordKind.{RecordKind}
 use Rattle.trace.specs.declared.Entry.{Entry}
 use Rattle.trace.specs.declared.Fault.{Fault}
 use Rattle.trace.specs.Kind.{recordKindOctet}
-use Rattle.trace.specs.Reading.{traceFaultNumber, recordReferenceOf, entryOf}
-use Rattle.trace.specs.Recorded.{elementOf}
+use Rattle.trace.specs.Reading.{traceFaultNumber, recordReferenceOf, entryOf, elementOf}
 use Rattle.text.specs.Decimal.{decimalOf}
 use Rattle.text.proofs.Digits.{at-most}
 use Rattle.trace_lines.specs.declared.report.Columns.{Columns}
 use Rattle.trace_lines.specs.Items.{causeItem, levelItem, saidItem, moreItem, elementItem, itemsOf, commas, joined, messageColumn}
 use Rattle.trace_lines.specs.Line.{typeColumn, saidColumns, numberColumns, typeColumns, lineOf}
 use Rattle.trace_lines.specs.Notices.{faultLine}
-use Rattle.trace_run.specs.Entries.{columnsOf}
+use Rattle.trace_run.specs.Entry.{columnsOf}
 use Rattle.trace_run.specs.Run.{turnedAt, lineAt}
 use Rattle.trace_promises.specs.WholeRun.{Octets}
 use Rattle.trace_promises.proofs.Fronts.{Whole}

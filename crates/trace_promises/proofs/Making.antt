@@ -16,7 +16,7 @@ use Rattle.trace.specs.Kind.{sizeOf}
 use Rattle.trace.specs.Reading.{recordOf}
 use Rattle.trace_lines.specs.Notices.{faultLine}
 use Rattle.trace_run.specs.declared.front.Front.{Front}
-use Rattle.trace_run.specs.Fronts.{heededOf, frontOf}
+use Rattle.trace_run.specs.Front.{heededOf, frontOf}
 use Rattle.trace_run.specs.Run.{turnedAt, lineAt, Ran, rests, ends, goes, turnOf, runIn}
 use Rattle.trace_promises.specs.WholeRun.{Made, madeBy, madeIn, madeOf, thenMade}
 use Rattle.trace_promises.proofs.Fronts.{Whole, told, stays, size-least, size-within, same-element}

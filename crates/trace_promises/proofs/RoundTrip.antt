@@ -20,14 +20,13 @@ use Rattle.trace.specs.declared.Entry.{Entry}
 use Rattle.trace.specs.declared.Record.{Record}
 use Rattle.trace.specs.Kind.{recordKindOf, sizeOf}
 use Rattle.trace.specs.Values.{flagOf, sideOf, requestOf, givenOf, whatOf}
-use Rattle.trace.specs.Reading.{recordReferenceOf, rightsOf, requestsOf, answersOf, eventOf, placeOf, countOf, entryOf, recordOf}
-use Rattle.trace.specs.Recorded.{elementOf}
+use Rattle.trace.specs.Reading.{recordReferenceOf, rightsOf, requestsOf, answersOf, eventOf, placeOf, countOf, entryOf, recordOf, elementOf}
 use Rattle.recorder.specs.Writing.{flagOctet, sideOctet, requestOctet, givenOctet, whatOctet, fieldOctets, headOctets, recordOctets, recordFitsOf}
 use Rattle.trace_promises.specs.Records.{Zeros, Held, Field, InRange}
 use Rattle.trace_promises.specs.RoundTrip.{Again}
 use Rattle.logic.proofs.Tests.{both}
-use Rattle.user_element.specs.Writable.{elementFitsOf}
-use Rattle.user_element.proofs.writable.Whole.{Whole, element-in, element-small}
+use Rattle.user_element.specs.Writable.{elementFitsOf, UserElement}
+use Rattle.user_element.proofs.writable.Whole.{element-in, element-small}
 use Rattle.recorder.proofs.Sizing.{field-is}
 use Rattle.trace_promises.proofs.Ranged.{ranged}
 use Rattle.trace.proofs.Naming.{named-taken}
@@ -127,7 +126,7 @@ module _ (h u rest : List ℕ) (fit : elementFitsOf u ≡ true) where
         rw e at (after-element (i - (length h + 1 + length u)) (omega arith));
   }
 
-  held : Whole u → Held text (length h)
+  held : UserElement u → Held text (length h)
   held w =
       let a = w .least in
       let one : length h + 1 ≡ length h + suc 0 = omega arith in

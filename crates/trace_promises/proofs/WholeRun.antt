@@ -17,7 +17,7 @@ use Rattle.trace.specs.Reading.{recordOf}
 use Rattle.trace.proofs.Sizes.{least}
 use Rattle.trace_lines.specs.Notices.{faultLine}
 use Rattle.trace_run.specs.declared.front.Front.{Front}
-use Rattle.trace_run.specs.Fronts.{heededOf, frontOf}
+use Rattle.trace_run.specs.Front.{heededOf, frontOf}
 use Rattle.trace_run.specs.Run.{lineAt, Ran, turnOf, runIn, traceRunOf}
 use Rattle.trace_promises.specs.WholeRun.{madeOf, printedOf, GoesOn, Octets, longest, Bounded, Run, WholeRun, Runs, Always}
 use Rattle.trace_promises.proofs.Fronts.{record-none}

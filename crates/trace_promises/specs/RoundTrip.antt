@@ -6,8 +6,7 @@ use mathlib.Core.Path.{_≡_}
 use Rattle.event.specs.declared.Event.{Event}
 use Rattle.trace.specs.declared.Record.{Record}
 use Rattle.trace.specs.declared.Entry.{Entry}
-use Rattle.trace.specs.Reading.{recordOf}
-use Rattle.trace.specs.Recorded.{elementOf}
+use Rattle.trace.specs.Reading.{recordOf, elementOf}
 use Rattle.recorder.specs.Writing.{recordOctets, recordFitsOf}
 
 -- ROUND TRIP. What is written reads back as the same event and element, whatever follows it in the trace.

@@ -14,10 +14,10 @@ use Rattle.trace.specs.Kind.{sizeOf}
 use Rattle.trace_lines.specs.declared.report.Columns.{Columns}
 use Rattle.trace_lines.specs.Line.{lineOf}
 use Rattle.trace_run.specs.declared.front.Front.{Front}
-use Rattle.trace_run.specs.Entries.{columnsOf, plannedAt}
+use Rattle.trace_run.specs.Entry.{columnsOf, plannedAt}
 use Rattle.trace_run.specs.declared.turn.Stand.{Stand}
 use Rattle.trace_run.specs.declared.turn.Move.{Move}
-use Rattle.trace_run.specs.Turns.{halts, onceWritten, Printed}
+use Rattle.trace_run.specs.Turn.{halts, onceWritten, Printed}
 use Rattle.trace_run.proofs.turn.Printing.{prints}
 use Rattle.trace_run.specs.Move.{Moved}
 use Rattle.memory.proofs.Pieces.{no-put}

@@ -17,8 +17,7 @@ use Rattle.trace.specs.declared.Entry.{Entry}
 use Rattle.trace.specs.declared.Fault.{Fault}
 use Rattle.trace.specs.declared.Record.{Record}
 use Rattle.trace.specs.Kind.{sizeOf, recordKindOf}
-use Rattle.trace.specs.Reading.{recordOf, namedOf, entryOf, rangedOf}
-use Rattle.trace.specs.Recorded.{elementOf}
+use Rattle.trace.specs.Reading.{recordOf, namedOf, entryOf, rangedOf, elementOf}
 use Rattle.trace.proofs.Sizes.{least}
 use Rattle.trace_lines.specs.Line.{lineOf}
 use Rattle.trace_lines.specs.Notices.{faultLine}
@@ -30,10 +29,10 @@ use Rattle.table.specs.declared.plan.Looked.{Looked}
 use Rattle.table.specs.Halves.{lookOf, committed}
 use Rattle.table.proofs.step.Planned.{plan-told, plan-put}
 use Rattle.table_promises.proofs.Table.{one-place}
-use Rattle.trace_run.specs.Fronts.{heededOf, frontOf, referenceIn, eventIn}
-use Rattle.trace_run.specs.Entries.{columnsOf, plannedAt}
+use Rattle.trace_run.specs.Front.{heededOf, frontOf, referenceIn, eventIn}
+use Rattle.trace_run.specs.Entry.{columnsOf, plannedAt}
 use Rattle.trace_run.specs.Run.{turnedAt, lineAt, Ran, rests, ends, goes, runIn, traceRunOf, soFar, WorkedOff}
-use Rattle.trace_run.specs.Turns.{halts}
+use Rattle.trace_run.specs.Turn.{halts}
 use Rattle.trace_run.specs.Move.{sizeIn, textIn, beginning, moveIn, Moved}
 
 -- nothing stands at the front of no octets

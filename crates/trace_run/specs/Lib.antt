@@ -1,5 +1,5 @@
 pub mod Run
 pub mod Move
-pub mod Turns
-pub mod Fronts
-pub mod Entries
+pub mod Turn
+pub mod Front
+pub mod Entry

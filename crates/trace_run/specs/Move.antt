@@ -8,10 +8,10 @@ use Rattle.trace.specs.Kind.{sizeOf}
 use Rattle.trace_lines.specs.Line.{lineOf}
 use Rattle.trace_lines.specs.Notices.{faultLine}
 use Rattle.trace_run.specs.declared.front.Front.{Front}
-use Rattle.trace_run.specs.Entries.{columnsOf, plannedAt}
+use Rattle.trace_run.specs.Entry.{columnsOf, plannedAt}
 use Rattle.trace_run.specs.declared.turn.Stand.{Stand}
 use Rattle.trace_run.specs.declared.turn.Move.{Move}
-use Rattle.trace_run.specs.Turns.{moveTo, halts, faultMove, Printed}
+use Rattle.trace_run.specs.Turn.{moveTo, halts, faultMove, Printed}
 
 -- the octets of a whole record
 abbrev pub sizeIn : Front → ℕ

@@ -12,13 +12,13 @@ use Rattle.table.specs.Step.{stepOutcome, stepTable}
 use Rattle.trace.specs.declared.Entry.{Entry}
 use Rattle.trace.specs.declared.Fault.{Fault}
 use Rattle.trace.specs.Kind.{sizeOf}
-use Rattle.trace.specs.Recorded.{elementOf}
 use Rattle.trace_lines.specs.Line.{lineOf}
 use Rattle.trace_lines.specs.Notices.{faultLine}
 use Rattle.trace_run.specs.declared.front.Front.{Front}
-use Rattle.trace_run.specs.Fronts.{frontOf}
-use Rattle.trace_run.specs.Entries.{columnsOf}
+use Rattle.trace_run.specs.Front.{frontOf}
+use Rattle.trace_run.specs.Entry.{columnsOf}
 use Rattle.trace_run.specs.declared.Worked.{Worked}
+use Rattle.trace.specs.Reading.{elementOf}
 
 -- the table that an event leaves, and what it is answered
 pub record Turned : Type 0 where

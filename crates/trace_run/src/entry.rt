@@ -1,6 +1,6 @@
 // What a whole record of a trace asks of the table, and the columns of what it is answered.
 ghost use mathlib.Core.Path.{_≡_};
-ghost use Rattle.trace_run.specs.Entries.{plannedAt, columnsOf};
+ghost use Rattle.trace_run.specs.Entry.{plannedAt, columnsOf};
 use table::plan::Looked;
 use table::plan::Plan;
 use table::plan::plans;

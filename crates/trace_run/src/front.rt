@@ -1,6 +1,6 @@
 // What a piece of trace begins with, what that asks of a table of calls, and what is printed of the answer; all by value.
 ghost use mathlib.Core.Path.{_≡_};
-ghost use Rattle.trace_run.specs.Fronts.{frontOf, referenceIn, eventIn};
+ghost use Rattle.trace_run.specs.Front.{frontOf, referenceIn, eventIn};
 use event::Event;
 use trace::Entry;
 use trace::Fault;

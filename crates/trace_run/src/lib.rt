@@ -5,7 +5,7 @@ ghost use Prim.Native.Nat.{_+_, _≤_};
 ghost use lib.ListN.{length, drop};
 ghost use Rattle.trace.specs.Kind.{sizeOf};
 ghost use Rattle.trace_run.specs.declared.front.Front.{Front};
-ghost use Rattle.trace_run.specs.Fronts.{frontOf};
+ghost use Rattle.trace_run.specs.Front.{frontOf};
 ghost use Rattle.trace_run.specs.Run.{soFar, WorkedOff};
 ghost use Rattle.trace_run.specs.Move.{sizeIn, beginning, Moved};
 use crate::entry::columns_of;

@@ -2,7 +2,7 @@
 ghost use mathlib.Core.Path.{_≡_};
 ghost use lib.ListN.{length};
 ghost use Rattle.trace_lines.specs.Notices.{faultLine};
-ghost use Rattle.trace_run.specs.Turns.{moveTo, onceWritten, faultMove, Printed};
+ghost use Rattle.trace_run.specs.Turn.{moveTo, onceWritten, faultMove, Printed};
 use memory::Wrote;
 use table::plan::Change;
 use trace::Fault;

@@ -1,6 +1,7 @@
 // The user-user element of an event: what it is seen to be, its note, and whether it goes out.
 ghost use mathlib.Core.Path.{_≡_};
 ghost use Rattle.user_element.specs.Element.{wellFormedOf, seenOf, wholeOf, notedOf, goesOutOf};
+use memory::octet::wide;
 
 pub mod writable;
 
@@ -21,12 +22,6 @@ pub enum Note {
     Malformed,
     TooLong,
     NotCarried,
-}
-
-fn wide(x: u8) -> usize
-    ensures { λ r. ⌜ r ≡ x ⌝ }
-{
-    x as usize
 }
 
 fn well_formed(e: &[u8]) -> bool

@@ -1,12 +1,7 @@
 // The user-user element as it can be written, into a message or a trace.
 ghost use mathlib.Core.Path.{_≡_};
 ghost use Rattle.user_element.specs.Writable.{elementFitsOf};
-
-fn wide(x: u8) -> usize
-    ensures { λ r. ⌜ r ≡ x ⌝ }
-{
-    x as usize
-}
+use memory::octet::wide;
 
 // Absent, or an element that the paper lets go out.
 pub fn element_fits(u: &[u8]) -> bool

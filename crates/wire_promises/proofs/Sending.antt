@@ -14,7 +14,7 @@ use Rattle.memory.specs.Numbers.{wroteNumber}
 use Rattle.message_fields.specs.declared.Message.{Message as LineMessage}
 use Rattle.message_fields.specs.declared.Single.{Single}
 use Rattle.elements.specs.Meaning.{andSays, firstThree}
-use Rattle.octet_promises.specs.Promises.{SingleIn, CauseIn, FacilitiesIn, UserElement, InRange, answerOf}
+use Rattle.octet_promises.specs.Promises.{SingleIn, CauseIn, FacilitiesIn, InRange, answerOf}
 use Rattle.octet_promises.proofs.Promises.{reads, round-trip, writes}
 use Rattle.octet_promises.proofs.Range.{range-fits}
 use Rattle.octet_promises.proofs.Trip.{message-back}
@@ -41,19 +41,18 @@ use Rattle.call.specs.declared.reply.Reply.{Reply}
 use Rattle.flow_meter.specs.declared.passage.Passage.{Passage}
 use Rattle.user_element.specs.Element.{wholeOf}
 use Rattle.setup_rules.specs.Requests.{lacksOf, toCallerOf, toCalledOf}
-use Rattle.answering_rules.specs.Consequences.{failedOf}
+use Rattle.answering_rules.specs.Effects.{failedOf}
 use Rattle.sent.specs.Message.{sayingOf, bareOf, congestionOf, informsOf, onlyIfOf}
-use Rattle.information_rules.specs.Passing.{passesOf, marksOf}
+use Rattle.information_rules.specs.Messages.{passesOf, marksOf}
 use Rattle.call.specs.Answering.{goesOnOf, clearsOf, answeringOf, answeredOf, alertingOf, connectOf}
 use Rattle.call.specs.Disconnect.{passedOnOf, disconnectOf, endsOf, releaseCompleteOf}
-use Rattle.facility_rules.specs.Telling.{aboutThreeOf}
+use Rattle.facility_rules.specs.Messages.{aboutThreeOf}
 use Rattle.call.specs.Facility.{passesFacilityOf, facilityOf}
 use Rattle.call.specs.Information.{informationPassageOf, carriedOf, withElementOf, informationOf}
 use Rattle.call.specs.Reply.{refusedOf, replyOf}
 use Rattle.call.specs.Setup.{proceedsOf, setupOf}
 use Rattle.call.specs.Sound.{soundOf}
 use Rattle.call.specs.Step.{notAnEventOf, stepOf}
-use Rattle.flow_meter.specs.Ticking.{readyOf}
 use Rattle.call.specs.Tick.{passesTickOf, tickOf}
 use Rattle.call_promises.specs.Ranges.{Live}
 use Rattle.call_promises.specs.Numbers.{WellFormed}
@@ -67,6 +66,8 @@ use Rattle.call_promises.proofs.Heard.{Heard, through, barred, heard}
 use Rattle.call_promises.proofs.Phases.{requested, connectable, talking, active, up, live}
 use Rattle.call_promises.proofs.Ranges.{reference-range, rights-range, in-range}
 use Rattle.call_promises.proofs.Handling.{unaltered}
+use Rattle.user_element.specs.Writable.{UserElement}
+use Rattle.flow_meter.specs.CallMeters.{readyOf}
 
 -- components with invoke numbers in range
 abbrev Numbered : List Component → Type 0

@@ -26,10 +26,6 @@ referenceOctets Width.Two flag r = 2 ∷ topOf flag (r / 256) ∷ r % 256 ∷ []
 abbrev pub headerOctets : Header → List ℕ
 headerOctets h = 8 ∷ (referenceOctets (h .width) (h .flag) (h .reference) ++ (kindOctet (h .kind) ∷ []))
 
-abbrev pub headerSize : Width → ℕ
-headerSize Width.One = 4
-headerSize Width.Two = 5
-
 abbrev pub singleOctets : Single → List ℕ
 singleOctets Single.Absent = []
 singleOctets Single.MoreData = 0xA0 ∷ []

@@ -3,21 +3,20 @@ ghost use mathlib.Core.Path.{_≡_};
 ghost use Prim.Native.Nat.{_≤_};
 ghost use lib.ListN.{length};
 ghost use Rattle.facility.specs.Filling.{facilityOctets};
-ghost use Rattle.writer.specs.Writing.{headerSize, singleOctets, causesOctets, facilitiesOctets, frontOctets};
+ghost use Rattle.writer.specs.Writing.{singleOctets, causesOctets, facilitiesOctets, frontOctets};
+ghost use Rattle.message_fields.specs.Width.{headerSize};
 use cause::Cause;
 use facility::Component;
 use message_fields::Facilities;
 use message_fields::Message;
 use message_fields::Single;
 use message_fields::Width;
+use message_fields::width_size;
 
 fn header_size(w: Width) -> usize
     ensures { λ r. ⌜ r ≡ headerSize w ⌝ }
 {
-    match w {
-        Width::One => 4,
-        Width::Two => 5,
-    }
+    width_size(w) + 3
 }
 
 fn single_size(s: Single) -> usize

@@ -9,7 +9,7 @@ use Rattle.message.proofs.headed.Lts as lts
 use Rattle.message_types.proofs.kind_in.Reads as kind-in-reads
 use Rattle.message.proofs.reference.Reads as reference-reads
 use Rattle.elements.proofs.scan.Reads as scan-reads
-use Rattle.message.proofs.width_size.Reads as width-size-reads
+use Rattle.message_fields.proofs.width_size.Reads as width-size-reads
 
 width-size-requires : tie.Need-width-size-requires
 width-size-requires c κs = search needs

@@ -3,7 +3,7 @@ use Rattle.message.proofs.reference.Statement.{statement}
 use Rattle.message.proofs.reference.Tie as tie
 use Rattle.message.proofs.reference.Reads as reads
 use Rattle.message.proofs.reference.Lts as lts
-use Rattle.message.proofs.wide16.Reads as wide16-reads
+use Rattle.memory.proofs.octet.wide16.Reads as wide16-reads
 
 enum-told : tie.Need-enum-told
 enum-told c = search needs

@@ -46,7 +46,7 @@ use Rattle.phases.specs.Phase.{liveOf}
 use Rattle.call.proofs.Call as T
 use Rattle.call.proofs.Call.Laws as T′
 use Rattle.table.specs.declared.sought.Sought.{Sought}
-use Rattle.table.specs.Look.{searchFromOf, faultOf}
+use Rattle.table.specs.Sought.{searchFromOf, faultOf}
 use Rattle.table.specs.First.{firstFrom}
 use Rattle.table.specs.Table.{heldIn, callsSound}
 use Rattle.table.specs.declared.choice.Spot.{Spot}

@@ -45,7 +45,7 @@ use Rattle.call.specs.Sound.{freshCall}
 use Rattle.call.proofs.Call as T
 use Rattle.call.proofs.Call.Laws as T′
 use Rattle.table.specs.declared.sought.Sought.{Sought}
-use Rattle.table.specs.Look.{meetsOf}
+use Rattle.table.specs.Sought.{meetsOf}
 use Rattle.table.specs.First.{firstFrom}
 use Rattle.table.specs.declared.choice.Spot.{Spot}
 use Rattle.table.specs.declared.choice.Spot.the-variants.{At, Nothing}

@@ -40,7 +40,7 @@ use Rattle.table.proofs.choice.Spot.Laws as U′
 use Rattle.table.specs.declared.sought.Sought.{Sought}
 use Rattle.table.proofs.sought.Sought as S
 use Rattle.table.proofs.sought.Sought.Laws as S′
-use Rattle.table.specs.Look.{freeOf}
+use Rattle.table.specs.Sought.{freeOf}
 use Rattle.table.specs.First.{firstFrom}
 use Rattle.table.specs.Table.{placeFrom}
 use Rattle.table.proofs.Dropped.{Leaving, leaves-dropped, meets-dropped}

@@ -9,11 +9,10 @@ use Rattle.event.specs.declared.Event.{Event}
 use Rattle.call.specs.Sound.{freshCall}
 use Rattle.table.specs.declared.choice.Choice.{Choice}
 use Rattle.table.specs.declared.plan.Change.{Change}
-use Rattle.table.specs.Chosen.{chosenOf}
 use Rattle.table.specs.Halves.{lookAt, lookOf, committed}
-use Rattle.table.specs.Plan.{rowOf, recordOf}
-use Rattle.table.specs.Decided.{planOf}
+use Rattle.table.specs.Plan.{rowOf, recordOf, planOf}
 use Rattle.table.specs.Step.{outcomeAt, tableAt, stepOutcome, stepTable}
+use Rattle.table.specs.Choice.{chosenOf}
 
 beyond : (l : List Call) (i : ℕ) (c : Call) → length l ≤ i → set l i c ≡ l
 beyond [] i c h = refl

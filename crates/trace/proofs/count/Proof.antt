@@ -6,7 +6,7 @@ use Rattle.trace.proofs.count.Statement.{statement}
 use Rattle.trace.proofs.count.Tie as tie
 use Rattle.trace.proofs.count.Reads as reads
 use Rattle.trace.proofs.count.Lts as lts
-use Rattle.trace.proofs.wide.Reads as wide-reads
+use Rattle.memory.proofs.octet.wide.Reads as wide-reads
 
 returns : tie.Need-returns
 unfolding countOf
@@ -20,7 +20,7 @@ wide-requires c κs = search needs
 
 returns-2 : tie.Need-returns-2
 unfolding countOf
-returns-2 c = simp (ne-eqb _ _ (c .before .before .before .if1 .left), c .wide .ensures .0)
+returns-2 c = simp (ne-eqb _ _ (c .before .before .before .if1 .left), c .wide .ensures)
 
 returns-3 : tie.Need-returns-3
 unfolding countOf

@@ -1,7 +1,7 @@
-use Rattle.trace.specs.Recorded.{elementOf}
 use borrow.Author.Needs.{needs}
 use Rattle.trace.proofs.element.Statement.{statement}
 use Rattle.trace.proofs.element.Tie as tie
+use Rattle.trace.specs.Reading.{elementOf}
 
 stretch-requires : tie.Need-stretch-requires
 stretch-requires c κs = search needs

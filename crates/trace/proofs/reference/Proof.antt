@@ -4,7 +4,7 @@ use Rattle.trace.proofs.reference.Statement.{statement}
 use Rattle.trace.proofs.reference.Tie as tie
 use Rattle.trace.proofs.reference.Reads as reads
 use Rattle.trace.proofs.reference.Lts as lts
-use Rattle.trace.proofs.wide16.Reads as wide16-reads
+use Rattle.memory.proofs.octet.wide16.Reads as wide16-reads
 
 shared-slice-read-wide16 : tie.Need-shared-slice-read-wide16
 shared-slice-read-wide16 c = search needs

@@ -11,7 +11,7 @@ use Rattle.memory.specs.Room.{wroteOf, leftOf, Written}
 use Rattle.table.specs.declared.plan.Change.{Change}
 use Rattle.trace_run.specs.declared.turn.Stand.{Stand}
 use Rattle.trace_run.specs.declared.turn.Move.{Move}
-use Rattle.trace_run.specs.Turns.{moveTo, halts, onceWritten, Printed}
+use Rattle.trace_run.specs.Turn.{moveTo, halts, onceWritten, Printed}
 
 module _ (s : Stand) (put : Change) (used : ℕ) (ended more : Bool) (n : ℕ) where
   taken : (b : Bool) → onceWritten (cond b (Wrote.To n) (Wrote.Refused Bar.Room)) put used ended more s ≡ cond b (moveTo put used n ended more) (halts s)

@@ -62,7 +62,7 @@ use Rattle.flow_meter.proofs.Plainly.{pre-plain, calls-lasts, calls-told, calls
 use Rattle.trace_run.specs.declared.front.Front.{Front}
 use Rattle.trace_run.specs.declared.turn.Move.{Move}
 use Rattle.trace_run.specs.declared.turn.Stand.{Stand}
-use Rattle.trace_run.specs.Fronts.{referenceIn, eventIn, frontOf}
+use Rattle.trace_run.specs.Front.{referenceIn, eventIn, frontOf}
 use Rattle.trace_run.specs.Move.{sizeIn, beginning, Moved}
 use Rattle.trace_run.specs.Run.{soFar, WorkedOff}
 use Rattle.trace_run.proofs.Lent.{shares, lends, shared-back, lent-back}

@@ -9,15 +9,9 @@ use borrow.Author.Tests.{ltb-false, eqb-true, leb-true, leb-false, lt-ltb, le-lt
 use lib.ListN.{length, getD}
 use lib.Dec.{ltb, leb, eqb}
 use Rattle.logic.proofs.Tests.{if-so, if-not, if-yes}
-use Rattle.user_element.specs.Writable.{elementFitsOf}
+use Rattle.user_element.specs.Writable.{UserElement, elementFitsOf}
 
-pub record Whole (u : List ℕ) : Type 0 where
-  pub least : 2 ≤ length u
-  pub most : length u ≤ 131
-  pub first : getD u 0 0 ≡ 0x7E
-  pub second : getD u 1 0 ≡ length u - 2
-
-pub element-in : (u : List ℕ) → elementFitsOf u ≡ true → (length u ≡ 0) ⊎ Whole u
+pub element-in : (u : List ℕ) → elementFitsOf u ≡ true → (length u ≡ 0) ⊎ UserElement u
 unfolding elementFitsOf
 element-in u h =
     ⊎-elim (λ z. inl (eqb-true (length u) 0 z))
@@ -28,7 +22,7 @@ element-in u h =
     inr (record { least = ltb-false _ _ (a .0); most = ltb-false _ _ (b .0); first = eqb-true _ _ (d .0); second = eqb-true _ _ (d .1) }))
     (if-yes (eqb (length u) 0) _ h)
 
-pub element-fits : (u : List ℕ) → (length u ≡ 0) ⊎ Whole u → elementFitsOf u ≡ true
+pub element-fits : (u : List ℕ) → (length u ≡ 0) ⊎ UserElement u → elementFitsOf u ≡ true
 unfolding elementFitsOf
 element-fits u (inl z) = simp (eq-eqb _ _ z)
 element-fits u (inr e) =

@@ -14,7 +14,8 @@ use Rattle.message_fields.specs.declared.Single.{Single}
 use Rattle.message_fields.specs.declared.Facilities.{Facilities}
 use Rattle.message_fields.specs.declared.Message.{Message}
 use Rattle.message_types.specs.Kind.{kindOctet}
-use Rattle.writer.specs.Writing.{referenceOctets, headerOctets, headerSize, singleOctets, causesOctets, facilitiesOctets, frontOctets, messageOctets}
+use Rattle.writer.specs.Writing.{referenceOctets, headerOctets, singleOctets, causesOctets, facilitiesOctets, frontOctets, messageOctets}
+use Rattle.message_fields.specs.Width.{headerSize}
 
 pub header-size : (w : Width) (flag : Bool) (r : ℕ) (k : Kind) → headerSize w ≡ length (8 ∷ (referenceOctets w flag r ++ (kindOctet k ∷ [])))
 header-size Width.One flag r k = refl

@@ -6,7 +6,7 @@ use types.Run.{OneOf, miss}
 use Rattle.services.specs.declared.Said.{Said}
 use Rattle.answering_rules.specs.declared.Fate.{Fate}
 use Rattle.answering_rules.proofs.Fate.{the-type}
-use Rattle.answering_rules.specs.Consequences.{declinedOf}
+use Rattle.answering_rules.specs.Effects.{declinedOf}
 use Rattle.answering_rules.proofs.effects.declined.Statement.{statement}
 use Rattle.answering_rules.proofs.effects.declined.Tie as tie
 

@@ -1,4 +1,4 @@
-use Rattle.answering_rules.specs.Consequences.{declinesOf}
+use Rattle.answering_rules.specs.Effects.{declinesOf}
 use borrow.Author.Needs.{needs}
 use Rattle.answering_rules.proofs.effects.declines.Statement.{statement}
 use Rattle.answering_rules.proofs.effects.declines.Tie as tie

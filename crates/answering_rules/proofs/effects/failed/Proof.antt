@@ -1,4 +1,4 @@
-use Rattle.answering_rules.specs.Consequences.{failedOf}
+use Rattle.answering_rules.specs.Effects.{failedOf}
 use borrow.Author.Needs.{needs}
 use Rattle.answering_rules.proofs.effects.failed.Statement.{statement}
 use Rattle.answering_rules.proofs.effects.failed.Tie as tie

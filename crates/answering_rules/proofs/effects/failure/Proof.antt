@@ -7,7 +7,7 @@ use borrow.Author.Needs.{needs}
 use Rattle.cause.specs.declared.Cause.{Cause}
 use Rattle.answering_rules.specs.declared.Fate.{Fate}
 use Rattle.answering_rules.proofs.Fate.{the-type}
-use Rattle.answering_rules.specs.Consequences.{failureOf}
+use Rattle.answering_rules.specs.Effects.{failureOf}
 use Rattle.answering_rules.proofs.effects.failure.Statement.{statement}
 use Rattle.answering_rules.proofs.effects.failure.Tie as tie
 

@@ -9,7 +9,7 @@ use types.Run.{OneOf, miss}
 use borrow.Author.Needs.{needs}
 use Rattle.answering_rules.proofs.effects.in_force_after.Statement.{statement}
 use Rattle.answering_rules.proofs.effects.in_force_after.Tie as tie
-use Rattle.answering_rules.specs.Consequences.{inForceAfterOf}
+use Rattle.answering_rules.specs.Effects.{inForceAfterOf}
 
 -- where service 3 is not accepted the meters stay
 others : (m : Meters) (burst : ℕ) (x : Fate) → OneOf (0 ∷ 2 ∷ 3 ∷ []) (tagOf the-type x) → m ≡ inForceAfterOf m burst x

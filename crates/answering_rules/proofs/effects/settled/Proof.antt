@@ -7,7 +7,7 @@ use borrow.Author.Needs.{needs}
 use Rattle.services.specs.declared.Standing.{Standing}
 use Rattle.answering_rules.specs.declared.Fate.{Fate}
 use Rattle.answering_rules.proofs.Fate.{the-type}
-use Rattle.answering_rules.specs.Consequences.{settledOf}
+use Rattle.answering_rules.specs.Effects.{settledOf}
 use Rattle.answering_rules.proofs.effects.settled.Statement.{statement}
 use Rattle.answering_rules.proofs.effects.settled.Tie as tie
 

@@ -1,4 +1,4 @@
-use Rattle.answering_rules.specs.Consequences.{settlesOf}
+use Rattle.answering_rules.specs.Effects.{settlesOf}
 use borrow.Author.Needs.{needs}
 use Rattle.answering_rules.proofs.effects.settles.Statement.{statement}
 use Rattle.answering_rules.proofs.effects.settles.Tie as tie

@@ -1,4 +1,4 @@
-use Rattle.answering_rules.specs.Consequences.{tellsOf}
+use Rattle.answering_rules.specs.Effects.{tellsOf}
 use borrow.Author.Needs.{needs}
 use Rattle.answering_rules.proofs.effects.tells.Statement.{statement}
 use Rattle.answering_rules.proofs.effects.tells.Tie as tie

@@ -7,7 +7,7 @@ use borrow.Author.Needs.{needs}
 use Rattle.services.specs.declared.Said.{Said}
 use Rattle.answering_rules.specs.declared.Fate.{Fate}
 use Rattle.answering_rules.proofs.Fate.{the-type}
-use Rattle.answering_rules.specs.Consequences.{toldOf}
+use Rattle.answering_rules.specs.Effects.{toldOf}
 use Rattle.answering_rules.proofs.effects.told.Statement.{statement}
 use Rattle.answering_rules.proofs.effects.told.Tie as tie
 

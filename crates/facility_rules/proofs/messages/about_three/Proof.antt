@@ -1,4 +1,4 @@
-use Rattle.facility_rules.specs.Telling.{aboutThreeOf}
+use Rattle.facility_rules.specs.Messages.{aboutThreeOf}
 use borrow.Author.Needs.{needs}
 use Rattle.facility_rules.proofs.messages.about_three.Statement.{statement}
 use Rattle.facility_rules.proofs.messages.about_three.Tie as tie

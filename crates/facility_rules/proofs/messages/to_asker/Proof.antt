@@ -1,5 +1,5 @@
 use Rattle.sent.specs.Message.{onlyIfOf}
-use Rattle.facility_rules.specs.Telling.{notGrantedOf}
+use Rattle.facility_rules.specs.Messages.{notGrantedOf}
 use Rattle.answer.specs.declared.Answer.{Answer}
 use Rattle.answer.proofs.Answer.{the-type}
 use Prim.Native.Nat.{ℕ}

@@ -1,4 +1,4 @@
-use Rattle.flow_meter.specs.Meters.{emptyMeters}
+use Rattle.flow_meter.specs.CallMeters.{emptyMeters}
 use borrow.Author.Needs.{needs}
 use Rattle.flow_meter.proofs.call_meters.empty_meters.Statement.{statement}
 use Rattle.flow_meter.proofs.call_meters.empty_meters.Tie as tie

@@ -1,4 +1,4 @@
-use Rattle.flow_meter.specs.Meters.{grantsOf}
+use Rattle.flow_meter.specs.CallMeters.{grantsOf}
 use borrow.Author.Needs.{needs}
 use Rattle.flow_meter.proofs.call_meters.grants.Statement.{statement}
 use Rattle.flow_meter.proofs.call_meters.grants.Tie as tie

@@ -1,7 +1,7 @@
-use Rattle.flow_meter.specs.Ticking.{readyOf}
 use borrow.Author.Needs.{needs}
 use Rattle.flow_meter.proofs.call_meters.ready.Statement.{statement}
 use Rattle.flow_meter.proofs.call_meters.ready.Tie as tie
+use Rattle.flow_meter.specs.CallMeters.{readyOf}
 
 congestion-requires : tie.Need-congestion-requires
 congestion-requires c κs = search needs

@@ -1,7 +1,8 @@
-use Rattle.flow_meter.specs.Ticking.{tickedMetersOf, refillsOf}
+use Rattle.flow_meter.specs.CallMeters.{tickedMetersOf}
 use borrow.Author.Needs.{needs}
 use Rattle.flow_meter.proofs.call_meters.refills.Statement.{statement}
 use Rattle.flow_meter.proofs.call_meters.refills.Tie as tie
+use Rattle.flow_meter.specs.CallMeters.{refillsOf}
 
 ticked-requires : tie.Need-ticked-requires
 ticked-requires c κs = search needs

@@ -1,5 +1,5 @@
 use Rattle.sent.specs.Message.{onlyIfOf}
-use Rattle.information_rules.specs.Passing.{passesOf}
+use Rattle.information_rules.specs.Messages.{passesOf}
 use Rattle.flow_meter.specs.declared.passage.Passage.{Passage}
 use Rattle.flow_meter.proofs.passage.Passage.{the-type}
 use denote.Enum.Declared.{tagOf}

@@ -1,4 +1,4 @@
-use Rattle.table.specs.Look.{faultOf}
+use Rattle.table.specs.Sought.{faultOf}
 use borrow.Author.Needs.{needs}
 use Rattle.table.proofs.sought.at_fault.Statement.{statement}
 use Rattle.table.proofs.sought.at_fault.Tie as tie

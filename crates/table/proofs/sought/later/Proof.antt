@@ -1,4 +1,4 @@
-use Rattle.table.specs.Look.{searchFromOf}
+use Rattle.table.specs.Sought.{searchFromOf}
 use borrow.Author.Needs.{needs}
 use Rattle.table.proofs.sought.later.Statement.{statement}
 use Rattle.table.proofs.sought.later.Tie as tie

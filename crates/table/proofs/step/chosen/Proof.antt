@@ -41,8 +41,7 @@ use Rattle.call.proofs.Call as T
 use Rattle.event.proofs.Event as E
 use Rattle.event.proofs.Event.Laws as E′
 use Rattle.table.specs.Table.{tableSound, findFrom, placeFrom}
-use Rattle.table.specs.Chosen.{chosenOf}
-use Rattle.table.specs.Choice.{meantReferenceOf, chooseOf}
+use Rattle.table.specs.Choice.{meantReferenceOf, chooseOf, chosenOf}
 use Rattle.table.specs.declared.choice.Spot.{Spot}
 use Rattle.table.specs.declared.choice.Choice.{Choice}
 use Rattle.table.proofs.Ends.{full, forgets, frees-all}

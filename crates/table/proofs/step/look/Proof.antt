@@ -48,7 +48,6 @@ use Rattle.call.proofs.Call as T
 use Rattle.call.proofs.Call.Laws as T′
 use Rattle.event.proofs.Event as E
 use Rattle.event.proofs.Event.Laws as E′
-use Rattle.table.specs.Chosen.{chosenOf}
 use Rattle.table.specs.Halves.{lookAt, lookOf}
 use Rattle.table.specs.declared.choice.Choice.{Choice}
 use Rattle.table.specs.declared.choice.Choice.the-variants.{At, Refused}
@@ -84,6 +83,7 @@ use Rattle.table.proofs.step.look as f
 use Rattle.table.proofs.step.look.Statement as stated
 use Rattle.table.proofs.step.look.Code as code
 use Rattle.table.proofs.step.look.Code.Mir as body
+use Rattle.table.specs.Choice.{chosenOf}
 
 abbrev stayed : Stays (f.ended .signature .params) (f.ended .kept)
 stayed = (stay-dropped (shrSliceOf (0 ∷ []) tt (plain (λ _. T.the-row))) yes, (stay-dropped (plain (λ _. u16)) yes, (stay-dropped (plain (λ _. E.the-row)) yes, tt)))

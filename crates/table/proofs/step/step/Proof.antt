@@ -45,7 +45,6 @@ use Rattle.call.proofs.Call as T
 use Rattle.event.proofs.Event as E
 use Rattle.event.proofs.Event.Laws as E′
 use Rattle.table.specs.Halves.{lookOf, committed}
-use Rattle.table.specs.Decided.{planOf}
 use Rattle.table.specs.Step.{stepOutcome, stepTable}
 use Rattle.table.specs.declared.plan.Looked.{Looked}
 use Rattle.table.specs.declared.plan.Plan.{Plan}
@@ -89,6 +88,7 @@ use Rattle.table.proofs.step.step as f
 use Rattle.table.proofs.step.step.Statement as stated
 use Rattle.table.proofs.step.step.Code as code
 use Rattle.table.proofs.step.step.Code.Mir as body
+use Rattle.table.specs.Plan.{planOf}
 
 abbrev stayed : Stays (f.ended .signature .params) (f.ended .kept)
 stayed = (stay-slice (0 ∷ []) tt (plain (λ _. T.the-row)), (stay-dropped (plain (λ _. u16)) yes, (stay-dropped (plain (λ _. E.the-row)) yes, (stay-dropped (shrSliceOf (1 ∷ []) tt (plain (λ _. u8))) yes, tt))))

@@ -1,4 +1,4 @@
-use Rattle.trace_run.specs.Entries.{columnsOf}
+use Rattle.trace_run.specs.Entry.{columnsOf}
 use borrow.Author.Needs.{needs}
 use Rattle.trace_run.proofs.entry.columns_of.Statement.{statement}
 use Rattle.trace_run.proofs.entry.columns_of.Tie as tie

@@ -1,4 +1,4 @@
-use Rattle.trace_run.specs.Entries.{plannedAt}
+use Rattle.trace_run.specs.Entry.{plannedAt}
 use borrow.Author.Needs.{needs}
 use Rattle.trace_run.proofs.entry.planned.Statement.{statement}
 use Rattle.trace_run.proofs.entry.planned.Tie as tie

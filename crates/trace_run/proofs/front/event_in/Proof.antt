@@ -6,7 +6,7 @@ use types.Run.{OneOf, miss}
 use borrow.Author.Needs.{needs}
 use Rattle.event.specs.declared.Event.{Event}
 use Rattle.trace_run.specs.declared.front.Front.{Front}
-use Rattle.trace_run.specs.Fronts.{eventIn}
+use Rattle.trace_run.specs.Front.{eventIn}
 use Rattle.trace_run.proofs.front.Front.{the-type}
 use Rattle.trace_run.proofs.front.event_in.Statement.{statement}
 use Rattle.trace_run.proofs.front.event_in.Tie as tie

@@ -9,7 +9,7 @@ use Rattle.trace.specs.declared.Fault.{Fault}
 use Rattle.trace.specs.declared.Record.{Record}
 use Rattle.trace.proofs.Fault.{the-type}
 use Rattle.trace_run.specs.declared.front.Front.{Front}
-use Rattle.trace_run.specs.Fronts.{heededOf, frontOf}
+use Rattle.trace_run.specs.Front.{heededOf, frontOf}
 use Rattle.trace_run.proofs.front.front_of.Statement.{statement}
 use Rattle.trace_run.proofs.front.front_of.Tie as tie
 

@@ -5,7 +5,7 @@ use mathlib.Core.Path.{_≡_, refl}
 use types.Run.{OneOf, miss}
 use borrow.Author.Needs.{needs}
 use Rattle.trace_run.specs.declared.front.Front.{Front}
-use Rattle.trace_run.specs.Fronts.{referenceIn}
+use Rattle.trace_run.specs.Front.{referenceIn}
 use Rattle.trace_run.proofs.front.Front.{the-type}
 use Rattle.trace_run.proofs.front.reference_in.Statement.{statement}
 use Rattle.trace_run.proofs.front.reference_in.Tie as tie

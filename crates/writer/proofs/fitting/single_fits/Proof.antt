@@ -24,13 +24,13 @@ level-fits-requires : tie.Need-level-fits-requires
 level-fits-requires c κs = search needs
 
 returns : tie.Need-returns
-returns c = simp (c .plain-fits .ensures, ← (c .before .before .class-of .ensures), c .before .enum-told .given .1)
+returns c = simp (c .plain-fits .ensures, ← (c .before .before .before .class-of .ensures), c .before .enum-told .given .1)
 
 returns-2 : tie.Need-returns-2
-returns-2 c = simp (c .more-fits .ensures, ← (c .before .before .class-of .ensures), c .before .enum-told2 .given .1)
+returns-2 c = simp (c .more-fits .ensures, ← (c .before .before .before .class-of .ensures), c .before .enum-told2 .given .1)
 
 returns-3 : tie.Need-returns-3
-returns-3 c = simp (c .level-fits .ensures, ← (c .before .before .class-of .ensures), c .before .enum-told3 .given .1)
+returns-3 c = simp (c .level-fits .ensures, ← (c .before .before .before .class-of .ensures), c .before .enum-told3 .given .1)
 
 pub single-fits-spec : {M : Type 1} → statement M
 single-fits-spec =

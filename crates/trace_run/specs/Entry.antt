@@ -5,10 +5,10 @@ use Rattle.table.specs.declared.plan.Looked.{Looked}
 use Rattle.table.specs.declared.plan.Plan.{Plan}
 use Rattle.table.specs.declared.settle.Outcome.{Outcome}
 use Rattle.table.specs.Verdict.{verdictNumber}
-use Rattle.table.specs.Decided.{planOf}
 use Rattle.trace.specs.declared.Entry.{Entry}
-use Rattle.trace.specs.Recorded.{elementOf}
 use Rattle.trace_lines.specs.declared.report.Columns.{Columns}
+use Rattle.table.specs.Plan.{planOf}
+use Rattle.trace.specs.Reading.{elementOf}
 
 -- the record's event, at what the table shows of it
 unfoldable pub plannedAt : Looked → Entry → List ℕ → Plan

@@ -9,8 +9,10 @@ use Rattle.services.specs.declared.Standings.{Standings}
 use Rattle.cause.specs.Cause.{firstOf}
 use Prim.Native.Nat.{ℕ}
 use Rattle.flow_meter.specs.declared.call_meters.Meters.{Meters}
-use Rattle.flow_meter.specs.Meters.{grantsOf}
+use Rattle.flow_meter.specs.CallMeters.{grantsOf}
 
+-- How a service stands after its answer. Where one failed the call is cleared and this is not asked: Failed is here only to be total, and so it is
+-- in toldOf and inForceAfterOf.
 abbrev pub settledOf : Standing → Fate → Standing
 settledOf s Fate.Kept = s
 settledOf s Fate.Accepted = Standing.InForce
@@ -55,6 +57,7 @@ tellsOf f = record { one = toldOf (f .one); two = toldOf (f .two); three = toldO
 unfoldable pub declinesOf : Fates → Facilities
 declinesOf f = record { one = declinedOf (f .one); two = declinedOf (f .two); three = declinedOf (f .three) }
 
+-- "Accepted: in force", which for service 3 gives each direction its credit
 abbrev pub inForceAfterOf : Meters → ℕ → Fate → Meters
 inForceAfterOf m burst Fate.Kept = m
 inForceAfterOf m burst Fate.Accepted = grantsOf m burst
