@@ -13,12 +13,13 @@ use Rattle.call.specs.Reply.{barOf, heardOf}
 use Rattle.call.specs.Setup.{filledOf, proceedsOf, setupOf}
 use Rattle.call.specs.Sound.{soundOf, freshCall}
 use Rattle.call.specs.Step.{stepOf}
-use Rattle.table.specs.Choice.{meantReferenceOf, opensOf, setupRangedOf}
+use Rattle.table.specs.Choice.{ownOr, isNew, meantReferenceOf, opensOf, setupRangedOf}
 use Rattle.call_promises.specs.Ranges.{InRangeCall}
 use Rattle.table.specs.Settle.{subjectOf, changesOf, recordKeptOf, settledOf}
 use Rattle.logic.proofs.Decide.{never, by-cond, both}
 use Rattle.call_promises.proofs.Kept.{NotSetup, Follows, same, step-in, setup-in}
 use Rattle.call_promises.proofs.Ranges.{reference-range, rights-range}
+use Rattle.table.specs.declared.choice.Wanted.{Wanted}
 
 -- an event that does not open a call is no SETUP
 not-setup : (e : Event) → opensOf e ≡ false → NotSetup e
@@ -54,6 +55,11 @@ module _ (c : Call) (m reference : ℕ) (rights : Rights) (q : Requests) (l : Li
         fields = rw (filled c f) (setup-in reference rights q _ (p .0) (p .1));
         whatever = λ d. rw (filled c f, filled d f);
       }
+
+-- an event that does not open a call is about the reference beside it
+pub own-reference : (n : ℕ) (w : Wanted) → isNew w ≡ false → ownOr n w ≡ n
+own-reference n (Wanted.New own ranged) e = never refl e
+own-reference n Wanted.Old e = refl
 
 -- what holds of every SETUP holds of an event that opens a call
 pub of-setup : (P : Event → Type 0) → ((reference : ℕ) (rights : Rights) (q : Requests) → P (Event.Setup reference rights q)) → (e : Event) → opensOf e ≡ true → P e

@@ -15,9 +15,8 @@ use Rattle.call.specs.Sound.{freshCall}
 use Rattle.call.specs.Step.{stepOf}
 use Rattle.table.specs.declared.choice.Choice.{Choice}
 use Rattle.table.specs.declared.verdict.Verdict.{Verdict}
-use Rattle.table.specs.declared.choice.Wanted.{Wanted}
 use Rattle.table.specs.declared.choice.Spot.{Spot}
-use Rattle.table.specs.Choice.{wantedOf, ownOr, isNew, meantReferenceOf, opensOf, setupRangedOf, chooseOf, chosenOf}
+use Rattle.table.specs.Choice.{wantedOf, meantReferenceOf, opensOf, setupRangedOf, chooseOf, chosenOf}
 use Rattle.table.specs.Settle.{subjectOf, recordKeptOf, heardOutcomeOf, tableRefusalOf, settledOf}
 use Rattle.table.specs.Table.{tableSound, findFrom, placeFrom}
 use Rattle.table.specs.Step.{outcomeAt, tableAt, stepOutcome, stepTable}
@@ -27,14 +26,10 @@ use Rattle.table_promises.proofs.Counted.{found-held, not-found, no-pla
 use Rattle.table_promises.proofs.Within.{chosen-within}
 use Rattle.table_promises.proofs.Table.{not-ranged, is-ranged, changes-at, chosen-names}
 use Rattle.table_promises.specs.Replies.{SetupBarred, outOfRange, alreadyHeld, noPlace, TableRefuses, faulty, setup, other, Silent, Own, Replies}
-use Rattle.table_promises.proofs.AloneKept.{of-setup}
+use Rattle.table_promises.proofs.AloneKept.{of-setup, own-reference}
 use Rattle.table_promises.proofs.AloneTable.{Chosen, out, held, full, new, none, old, chosen}
 
 -- ---- what is chosen, and what the table refuses
-own-reference : (n : ℕ) (w : Wanted) → isNew w ≡ false → ownOr n w ≡ n
-own-reference n (Wanted.New own ranged) e = never refl e
-own-reference n Wanted.Old e = refl
-
 -- the table refuses exactly where no place is chosen
 data Decided (t : List Call) (n : ℕ) (e : Event) : Choice → Type 0 where
   refuses : (v : Verdict) → TableRefuses t n e → Decided t n e (Choice.Refused v)

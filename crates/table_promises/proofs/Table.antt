@@ -25,11 +25,11 @@ use Rattle.call.specs.Setup.{setupOf, proceedsOf}
 use Rattle.call.specs.Sound.{freshCall, soundOf}
 use Rattle.call.specs.Step.{stepOf}
 use Rattle.table.specs.Table.{tableSound, findFrom, placeFrom}
-use Rattle.table.specs.Choice.{meantReferenceOf, opensOf, setupRangedOf, newPlaceOf, oldPlaceOf, chooseOf, chosenOf}
+use Rattle.table.specs.Choice.{wantedOf, meantReferenceOf, opensOf, setupRangedOf, newPlaceOf, oldPlaceOf, chooseOf, chosenOf}
 use Rattle.table.specs.Verdict.{verdictNumber}
 use Rattle.table.specs.Settle.{subjectOf, changesOf, recordKeptOf, heardOutcomeOf, tableRefusalOf, settledOf}
 use Rattle.table.specs.Step.{outcomeAt, tableAt, stepOutcome, stepTable}
-use Rattle.table_promises.specs.Table.{heldCall, otherRows, tableRows, numberAt, Table, Refused, OneChanged, OnePlace, LiveAt, Lowest, Names, Named, OneSpent, Fourteen}
+use Rattle.table_promises.specs.Table.{heldCall, SetsUp, setup, Other, tableRows, numberAt, Table, Refused, OneChanged, OnePlace, LiveAt, Lowest, Names, lowest, held, Named, OneSpent, Fourteen}
 use Rattle.table.specs.declared.choice.Spot.{Spot}
 use Rattle.table.specs.declared.choice.Choice.{Choice}
 use Rattle.table.specs.declared.verdict.Verdict.{Verdict}
@@ -39,6 +39,7 @@ use Rattle.logic.proofs.Decide.{never}
 use Rattle.logic.proofs.Tests.{both, and-true}
 use Rattle.table_promises.proofs.Counted.{found-held, not-found, no-place, not-full, not-faulty, is-faulty, found-call, found-live, found-lowest}
 use Rattle.table_promises.proofs.Within.{not-refused, same-chosen}
+use Rattle.table_promises.proofs.AloneKept.{of-setup, own-reference}
 
 -- ---- the choice, from what the table's tests say
 abbrev choiceOf : (whole opening fits : Bool) (held free : Spot) → Choice
@@ -68,46 +69,60 @@ pub is-ranged : (reference : ℕ) (rights : Rights) → (referenceFitsOf referen
 is-ranged reference rights e h =
     let p : (referenceFitsOf reference ≡ true) × (rightsFitOf rights ≡ true) = both (referenceFitsOf reference) (rightsFitOf rights) e in h (reference-range reference .so (p .0), rights-range rights .so (p .1))
 
+un : {P : ℕ → Rights → Type 0} {reference : ℕ} {rights : Rights} {q : Requests} → (P reference rights → ⊥) → SetsUp P (Event.Setup reference rights q) → ⊥
+un f (setup p) = f p
+
 setup-first : (t : List Call) (n reference : ℕ) (rights : Rights) (q : Requests) (l : List ℕ) (w f : Bool) (h p : Spot) → tableSound t ≡ w → (referenceFitsOf reference && rightsFitOf rights) ≡ f → findFrom t 0 reference ≡ h → placeFrom t 0 ≡ p
     → First (tableRows t n (Event.Setup reference rights q) l) (verdictNumber (outcomeAt t (choiceOf w true f h p) (Event.Setup reference rights q) l .verdict))
 unfolding tableRefusalOf
 setup-first t n reference rights q l false f h p ew ef eh ep = inl (is-faulty t ew, refl)
-setup-first t n reference rights q l true false h p ew ef eh ep = inr (not-faulty t ew, inl (not-ranged reference rights ef, refl))
-setup-first t n reference rights q l true true (Spot.At i) p ew ef eh ep = inr (not-faulty t ew, inr (is-ranged reference rights ef, inl (found-held t reference i eh, refl)))
+setup-first t n reference rights q l true false h p ew ef eh ep = inr (not-faulty t ew, inl (setup (not-ranged reference rights ef), refl))
+setup-first t n reference rights q l true true (Spot.At i) p ew ef eh ep =
+    inr (not-faulty t ew, inr (un (is-ranged reference rights ef), inl (setup (found-held t reference i eh), refl)))
 setup-first t n reference rights q l true true Spot.Nothing Spot.Nothing ew ef eh ep =
-    inr (not-faulty t ew, inr (is-ranged reference rights ef, inr (not-found t reference eh, inl (no-place t 0 ep, refl))))
+    inr (not-faulty t ew, inr (un (is-ranged reference rights ef), inr (un (not-found t reference eh), inl (setup (no-place t 0 ep), refl))))
 setup-first t n reference rights q l true true Spot.Nothing (Spot.At i) ew ef eh ep =
-    inr (not-faulty t ew, inr (is-ranged reference rights ef, inr (not-found t reference eh, inr (not-full t 0 i ep, setup-zero t i reference rights q l ef))))
+    inr (not-faulty t ew, inr (un (is-ranged reference rights ef), inr (un (not-found t reference eh), inr (un (not-full t 0 i ep), inr ((λ x. x .0 (setup tt)), inr ((λ x. x (setup tt)), setup-zero t i reference rights q l ef))))))
 
 -- ---- other events
 call-number : (t : List Call) (n i : ℕ) (e : Event) (l : List ℕ) → opensOf e ≡ false → getD t i freshCall ≡ heldCall t n → verdictNumber (outcomeAt t (Choice.At i) e l .verdict) ≡ numberOf (stepOf (heldCall t n) e l .answer)
 unfolding settledOf heardOutcomeOf subjectOf
 call-number t n i e l eo ec = λ j. numberOf (stepOf (cond (eo j) freshCall (ec j)) e l .answer)
 
-other-first : (t : List Call) (n : ℕ) (e : Event) (l : List ℕ) (w f : Bool) (h p : Spot) → opensOf e ≡ false → tableSound t ≡ w → findFrom t 0 n ≡ h → First (otherRows t n e l) (verdictNumber (outcomeAt t (choiceOf w false f h p) e l .verdict))
+no-setup : (e : Event) → opensOf e ≡ false → Other e
+no-setup e eo (setup x) = never refl eo
+
+other : {P : ℕ → Rights → Type 0} {e : Event} → Other e → SetsUp P e → ⊥
+other o (setup p) = o (setup tt)
+
+other-first : (t : List Call) (n : ℕ) (e : Event) (l : List ℕ) (w f : Bool) (h p : Spot) → opensOf e ≡ false → tableSound t ≡ w → findFrom t 0 n ≡ h → First (tableRows t n e l) (verdictNumber (outcomeAt t (choiceOf w false f h p) e l .verdict))
 unfolding tableRefusalOf
 other-first t n e l false f h p eo ew eh = inl (is-faulty t ew, refl)
-other-first t n e l true f Spot.Nothing p eo ew eh = inr (not-faulty t ew, inl (not-found t n eh, refl))
-other-first t n e l true f (Spot.At i) p eo ew eh = inr (not-faulty t ew, inr ((λ no. no (found-held t n i eh)), inl (tt, call-number t n i e l eo (found-call t i n eh))))
+other-first t n e l true f Spot.Nothing p eo ew eh =
+    let o = no-setup e eo in
+    inr (not-faulty t ew, inr (other o, inr (other o, inr (other o, inl ((o, not-found t n eh), refl)))))
+other-first t n e l true f (Spot.At i) p eo ew eh =
+    let o = no-setup e eo in
+    inr (not-faulty t ew, inr (other o, inr (other o, inr (other o, inr ((λ x. x .1 (found-held t n i eh)), inl (o, call-number t n i e l eo (found-call t i n eh)))))))
 
-other-number : (t : List Call) (n : ℕ) (e : Event) (l : List ℕ) → opensOf e ≡ false → meantReferenceOf n e ≡ n → First (otherRows t n e l) (numberAt t n e l)
-other-number t n e l eo er =
-    subst (First (otherRows t n e l)) (sym (number-is t n e l (tableSound t) false (setupRangedOf e) (findFrom t 0 n) (placeFrom t 0) refl eo refl (ap (findFrom t 0) er) refl))
+-- an event opens a call or it does not
+either-way : {P : Type 0} (b : Bool) → (b ≡ true → P) → (b ≡ false → P) → P
+either-way true f g = f refl
+either-way false f g = g refl
+
+other-number : (t : List Call) (n : ℕ) (e : Event) (l : List ℕ) → opensOf e ≡ false → First (tableRows t n e l) (numberAt t n e l)
+other-number t n e l eo =
+    subst (First (tableRows t n e l)) (sym (number-is t n e l (tableSound t) false (setupRangedOf e) (findFrom t 0 n) (placeFrom t 0) refl eo refl (ap (findFrom t 0) (own-reference n (wantedOf e) eo)) refl))
     (other-first t n e l (tableSound t) (setupRangedOf e) (findFrom t 0 n) (placeFrom t 0) eo refl refl)
 
-table-first : (t : List Call) (n : ℕ) (e : Event) (l : List ℕ) → First (tableRows t n e l) (numberAt t n e l)
-table-first t n (Event.Setup reference rights q) l =
+setup-number : (t : List Call) (n : ℕ) (l : List ℕ) (reference : ℕ) (rights : Rights) (q : Requests) → First (tableRows t n (Event.Setup reference rights q) l) (numberAt t n (Event.Setup reference rights q) l)
+setup-number t n l reference rights q =
     subst (First (tableRows t n (Event.Setup reference rights q) l)) (sym (number-is t n (Event.Setup reference rights q) l (tableSound t) true (referenceFitsOf reference && rightsFitOf rights) (findFrom t 0 reference) (placeFrom t 0) refl refl refl refl refl))
     (setup-first t n reference rights q l (tableSound t) (referenceFitsOf reference && rightsFitOf rights) (findFrom t 0 reference) (placeFrom t 0) refl refl refl refl)
-table-first t n (Event.Alerting answers) l = other-number t n (Event.Alerting answers) l refl refl
-table-first t n (Event.Connect answers) l = other-number t n (Event.Connect answers) l refl refl
-table-first t n (Event.Information side more) l = other-number t n (Event.Information side more) l refl refl
-table-first t n (Event.Facility side what) l = other-number t n (Event.Facility side what) l refl refl
-table-first t n (Event.Disconnect side cause answers) l = other-number t n (Event.Disconnect side cause answers) l refl refl
-table-first t n (Event.ReleaseComplete side) l = other-number t n (Event.ReleaseComplete side) l refl refl
-table-first t n Event.Tick l = other-number t n Event.Tick l refl refl
-table-first t n Event.CallProceeding l = other-number t n Event.CallProceeding l refl refl
-table-first t n Event.CongestionControl l = other-number t n Event.CongestionControl l refl refl
+
+table-first : (t : List Call) (n : ℕ) (e : Event) (l : List ℕ) → First (tableRows t n e l) (numberAt t n e l)
+table-first t n e l =
+    either-way (opensOf e) (of-setup (λ e. First (tableRows t n e l) (numberAt t n e l)) (setup-number t n l) e) (other-number t n e l)
 
 pub table : Table
 table t n e l = exactly (tableRows t n e l) (numberAt t n e l) (table-first t n e l)
@@ -179,24 +194,25 @@ old-names : (t : List Call) (n : ℕ) (w f : Bool) (p : Spot) (i : ℕ) → choi
 old-names t n false f p i e = not-refused i _ (sym e)
 old-names t n true f p i e = old-live t n (findFrom t 0 n) i refl e
 
-pub chosen-names : (t : List Call) (n : ℕ) (e : Event) (i : ℕ) → chosenOf t n e ≡ Choice.At i → Names t n e i
+setup-names : (t : List Call) (n i reference : ℕ) (rights : Rights) (q : Requests) → chosenOf t n (Event.Setup reference rights q) ≡ Choice.At i → Names t n i (Event.Setup reference rights q)
 unfolding chosenOf chooseOf
-chosen-names t n (Event.Setup reference rights q) i c = new-names t (tableSound t) (referenceFitsOf reference && rightsFitOf rights) (findFrom t 0 reference) i c
-chosen-names t n (Event.Alerting answers) i c = old-names t n (tableSound t) true (placeFrom t 0) i c
-chosen-names t n (Event.Connect answers) i c = old-names t n (tableSound t) true (placeFrom t 0) i c
-chosen-names t n (Event.Information side more) i c = old-names t n (tableSound t) true (placeFrom t 0) i c
-chosen-names t n (Event.Facility side what) i c = old-names t n (tableSound t) true (placeFrom t 0) i c
-chosen-names t n (Event.Disconnect side cause answers) i c = old-names t n (tableSound t) true (placeFrom t 0) i c
-chosen-names t n (Event.ReleaseComplete side) i c = old-names t n (tableSound t) true (placeFrom t 0) i c
-chosen-names t n Event.Tick i c = old-names t n (tableSound t) true (placeFrom t 0) i c
-chosen-names t n Event.CallProceeding i c = old-names t n (tableSound t) true (placeFrom t 0) i c
-chosen-names t n Event.CongestionControl i c = old-names t n (tableSound t) true (placeFrom t 0) i c
+setup-names t n i reference rights q c =
+    lowest (new-names t (tableSound t) (referenceFitsOf reference && rightsFitOf rights) (findFrom t 0 reference) i c)
 
-place-named : (t : List Call) (n : ℕ) (e : Event) (l : List ℕ) (i m : ℕ) (s : Bool) → eqb i m ≡ s → chosenOf t n e ≡ Choice.At m → (getD (set t m (settledOf (getD t m freshCall) e l .call)) i freshCall ≡ getD t i freshCall → ⊥) → Names t n e i
+other-chosen : (t : List Call) (n : ℕ) (e : Event) → opensOf e ≡ false → chosenOf t n e ≡ choiceOf (tableSound t) false (setupRangedOf e) (findFrom t 0 n) (placeFrom t 0)
+unfolding chosenOf chooseOf
+other-chosen t n e eo = λ j. choiceOf (tableSound t) (eo j) (setupRangedOf e) (findFrom t 0 (own-reference n (wantedOf e) eo j)) (placeFrom t 0)
+
+pub chosen-names : (t : List Call) (n : ℕ) (e : Event) (i : ℕ) → chosenOf t n e ≡ Choice.At i → Names t n i e
+chosen-names t n e i c =
+    either-way (opensOf e) (λ eo. of-setup (λ e. chosenOf t n e ≡ Choice.At i → Names t n i e) (setup-names t n i) e eo c)
+    (λ eo. held (no-setup e eo) (old-names t n (tableSound t) (setupRangedOf e) (placeFrom t 0) i (sym (other-chosen t n e eo) ∙ c)))
+
+place-named : (t : List Call) (n : ℕ) (e : Event) (l : List ℕ) (i m : ℕ) (s : Bool) → eqb i m ≡ s → chosenOf t n e ≡ Choice.At m → (getD (set t m (settledOf (getD t m freshCall) e l .call)) i freshCall ≡ getD t i freshCall → ⊥) → Names t n i e
 place-named t n e l i m true es ec h = chosen-names t n e i (ec ∙ ap Choice.At (sym (eqb-true i m es)))
 place-named t n e l i m false es ec h = absurd (h (getD-set-other t m i (settledOf (getD t m freshCall) e l .call) freshCall (eqb-false i m es)))
 
-named-at : (t : List Call) (n : ℕ) (e : Event) (l : List ℕ) (i : ℕ) (c : Choice) → chosenOf t n e ≡ c → (getD (tableAt t c e l) i freshCall ≡ getD t i freshCall → ⊥) → Names t n e i
+named-at : (t : List Call) (n : ℕ) (e : Event) (l : List ℕ) (i : ℕ) (c : Choice) → chosenOf t n e ≡ c → (getD (tableAt t c e l) i freshCall ≡ getD t i freshCall → ⊥) → Names t n i e
 named-at t n e l i (Choice.At m) ec h = place-named t n e l i m (eqb i m) refl ec h
 named-at t n e l i (Choice.Refused v) ec h = absurd (h refl)
 
@@ -240,22 +256,20 @@ other-spent t n e l true f (Spot.At i) p s eo eh k es =
     let spent : numberOf (stepOf (getD t i freshCall) e l .answer) ≡ 14 = sym (own-number (getD t i freshCall) e l eo) ∙ k in
     record { place = i; live = found-live t i n eh; answer = spent; table = es ∙ ap (set t i) (own-kept (getD t i freshCall) e l eo spent) }
 
-other-fourteen : (t : List Call) (n : ℕ) (e : Event) (l : List ℕ) → opensOf e ≡ false → meantReferenceOf n e ≡ n → numberAt t n e l ≡ 14 → OneSpent t (stepTable t n e l) n e l
-other-fourteen t n e l eo er k =
+other-fourteen : (t : List Call) (n : ℕ) (e : Event) (l : List ℕ) → opensOf e ≡ false → numberAt t n e l ≡ 14 → OneSpent t (stepTable t n e l) n e l
+other-fourteen t n e l eo k =
+    let er = ap (findFrom t 0) (own-reference n (wantedOf e) eo) in
     other-spent t n e l (tableSound t) (setupRangedOf e) (findFrom t 0 n) (placeFrom t 0) (stepTable t n e l) eo refl
-    (sym (number-is t n e l (tableSound t) false (setupRangedOf e) (findFrom t 0 n) (placeFrom t 0) refl eo refl (ap (findFrom t 0) er) refl) ∙ k)
-    (table-is t n e l (tableSound t) false (setupRangedOf e) (findFrom t 0 n) (placeFrom t 0) refl eo refl (ap (findFrom t 0) er) refl)
+    (sym (number-is t n e l (tableSound t) false (setupRangedOf e) (findFrom t 0 n) (placeFrom t 0) refl eo refl er refl) ∙ k)
+    (table-is t n e l (tableSound t) false (setupRangedOf e) (findFrom t 0 n) (placeFrom t 0) refl eo refl er refl)
 
-pub fourteen : Fourteen
-fourteen t n (Event.Setup reference rights q) l k =
+setup-fourteen : (t : List Call) (n : ℕ) (l : List ℕ) (reference : ℕ) (rights : Rights) (q : Requests) → numberAt t n (Event.Setup reference rights q) l ≡ 14 → OneSpent t (stepTable t n (Event.Setup reference rights q) l) n (Event.Setup reference rights q) l
+setup-fourteen t n l reference rights q k =
     setup-not-14 t reference rights q l (tableSound t) (referenceFitsOf reference && rightsFitOf rights) (findFrom t 0 reference) (placeFrom t 0) refl
     (sym (number-is t n (Event.Setup reference rights q) l (tableSound t) true (referenceFitsOf reference && rightsFitOf rights) (findFrom t 0 reference) (placeFrom t 0) refl refl refl refl refl) ∙ k)
-fourteen t n (Event.Alerting answers) l k = other-fourteen t n (Event.Alerting answers) l refl refl k
-fourteen t n (Event.Connect answers) l k = other-fourteen t n (Event.Connect answers) l refl refl k
-fourteen t n (Event.Information side more) l k = other-fourteen t n (Event.Information side more) l refl refl k
-fourteen t n (Event.Facility side what) l k = other-fourteen t n (Event.Facility side what) l refl refl k
-fourteen t n (Event.Disconnect side cause answers) l k = other-fourteen t n (Event.Disconnect side cause answers) l refl refl k
-fourteen t n (Event.ReleaseComplete side) l k = other-fourteen t n (Event.ReleaseComplete side) l refl refl k
-fourteen t n Event.Tick l k = other-fourteen t n Event.Tick l refl refl k
-fourteen t n Event.CallProceeding l k = other-fourteen t n Event.CallProceeding l refl refl k
-fourteen t n Event.CongestionControl l k = other-fourteen t n Event.CongestionControl l refl refl k
+
+pub fourteen : Fourteen
+fourteen t n e l k =
+    either-way (opensOf e)
+    (λ eo. of-setup (λ e. numberAt t n e l ≡ 14 → OneSpent t (stepTable t n e l) n e l) (setup-fourteen t n l) e eo k)
+    (λ eo. other-fourteen t n e l eo k)

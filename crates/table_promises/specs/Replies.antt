@@ -57,7 +57,7 @@ pub record Gives (s : List Call) (place : ℕ) (o : Outcome) (r : Reply) : Type 
 -- the reply of the call at the place that the event names: the lowest free one for SETUP, for others that of the live call of their reference
 pub record Own (t s : List Call) (n : ℕ) (e : Event) (element : List ℕ) (o : Outcome) : Type 0 where
   pub place : ℕ
-  pub named : Names t n e place
+  pub named : Names t n place e
   pub reply : Gives s place o (stepOf (stepsFrom (getD t place freshCall) e) e element)
 
 -- REPLIES. Where the table itself refuses, nothing is sent and the note is 0. Otherwise number, note and messages are those of the call's own

@@ -16,6 +16,8 @@ use Rattle.call_promises.specs.Ranges.{ReferenceInRange, RightsInRange, InRange
 use Rattle.table.specs.Sought.{liveAs}
 use Rattle.table.specs.Verdict.{verdictNumber}
 use Rattle.table.specs.Step.{stepOutcome, stepTable}
+use Rattle.rights.specs.declared.Rights.{Rights}
+use Rattle.services.specs.declared.Requests.{Requests}
 
 -- "Places Fresh or Ended are free, all others are live"
 abbrev pub Free : Phase → Type 0
@@ -46,26 +48,24 @@ abbrev pub heldCall : List Call → ℕ → Call
 heldCall [] n = freshCall
 heldCall (c ∷ cs) n = cond (liveAs c n) c (heldCall cs n)
 
+-- the event is SETUP, and P holds of its reference and rights
+pub data SetsUp (P : ℕ → Rights → Type 0) : Event → Type 0 where
+  setup : {reference : ℕ} {rights : Rights} {requests : Requests} → P reference rights → SetsUp P (Event.Setup reference rights requests)
+
+-- any other event
+abbrev pub Other : Event → Type 0
+Other e = SetsUp (λ reference rights. Unit {0}) e → ⊥
+
 -- TABLE. "25 comes first of 11 to 25; then the table gives 24, 22, 21 for SETUP and 23 for other events; then the call". A SETUP that the
 -- table does not refuse is taken.
-abbrev pub otherRows : List Call → ℕ → Event → List ℕ → Rows
-otherRows t n e element =
-    row (Faulty t) 25
-    (row (Held t n → ⊥) 23 (row (Unit {0}) (numberOf (stepOf (heldCall t n) e element .answer)) end))
-
 abbrev pub tableRows : List Call → ℕ → Event → List ℕ → Rows
-tableRows t n (Event.Setup reference rights requests) element =
+tableRows t n e element =
     row (Faulty t) 25
-    (row (ReferenceInRange reference × RightsInRange rights → ⊥) 24 (row (Held t reference) 22 (row (Full t) 21 end)))
-tableRows t n (Event.Alerting answers) element = otherRows t n (Event.Alerting answers) element
-tableRows t n (Event.Connect answers) element = otherRows t n (Event.Connect answers) element
-tableRows t n (Event.Information side more) element = otherRows t n (Event.Information side more) element
-tableRows t n (Event.Facility side what) element = otherRows t n (Event.Facility side what) element
-tableRows t n (Event.Disconnect side cause answers) element = otherRows t n (Event.Disconnect side cause answers) element
-tableRows t n (Event.ReleaseComplete side) element = otherRows t n (Event.ReleaseComplete side) element
-tableRows t n Event.Tick element = otherRows t n Event.Tick element
-tableRows t n Event.CallProceeding element = otherRows t n Event.CallProceeding element
-tableRows t n Event.CongestionControl element = otherRows t n Event.CongestionControl element
+    (row (SetsUp (λ reference rights. ReferenceInRange reference × RightsInRange rights → ⊥) e) 24
+    (row (SetsUp (λ reference rights. Held t reference) e) 22
+    (row (SetsUp (λ reference rights. Full t) e) 21
+    (row (Other e × (Held t n → ⊥)) 23
+    (row (Other e) (numberOf (stepOf (heldCall t n) e element .answer)) end)))))
 
 abbrev pub numberAt : List Call → ℕ → Event → List ℕ → ℕ
 numberAt t n e element = verdictNumber (stepOutcome t n e element .verdict)
@@ -95,22 +95,14 @@ pub record Lowest (t : List Call) (i : ℕ) : Type 0 where
   pub free : Free (getD t i freshCall .phase)
   pub lower : (j : ℕ) → j < i → Free (getD t j freshCall .phase) → ⊥
 
-abbrev pub Names : List Call → ℕ → Event → ℕ → Type 0
-Names t n (Event.Setup reference rights requests) i = Lowest t i
-Names t n (Event.Alerting answers) i = LiveAt t i n
-Names t n (Event.Connect answers) i = LiveAt t i n
-Names t n (Event.Information side more) i = LiveAt t i n
-Names t n (Event.Facility side what) i = LiveAt t i n
-Names t n (Event.Disconnect side cause answers) i = LiveAt t i n
-Names t n (Event.ReleaseComplete side) i = LiveAt t i n
-Names t n Event.Tick i = LiveAt t i n
-Names t n Event.CallProceeding i = LiveAt t i n
-Names t n Event.CongestionControl i = LiveAt t i n
+pub data Names (t : List Call) (n i : ℕ) : Event → Type 0 where
+  lowest : {reference : ℕ} {rights : Rights} {requests : Requests} → Lowest t i → Names t n i (Event.Setup reference rights requests)
+  held : {e : Event} → Other e → LiveAt t i n → Names t n i e
 
 abbrev pub Named : Type 0
 Named =
     (t : List Call) (n : ℕ) (e : Event) (element : List ℕ) (i : ℕ) →
-    (getD (stepTable t n e element) i freshCall ≡ getD t i freshCall → ⊥) → Names t n e i
+    (getD (stepTable t n e element) i freshCall ≡ getD t i freshCall → ⊥) → Names t n i e
 
 -- FOURTEEN. "14 may set the not-ready mark": then one live record of the event's reference is what the call itself made of it, answering 14, and
 -- all others are as they were. What that changes in the record is the call's to promise.

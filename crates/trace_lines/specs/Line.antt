@@ -4,7 +4,7 @@ use mathlib.Core.List.{List, [], _∷_, _++_}
 use mathlib.Core.Bool.{Bool, true, false}
 use Rattle.user_element.specs.Element.{noteNumberOf}
 use Rattle.sent.specs.declared.Sent.{Sent}
-use Rattle.message_types.specs.Kind.{recordKindOctet as typeOctet}
+use Rattle.message_types.specs.Kind.{kindOctet}
 use Rattle.trace.specs.Kind.{recordKindOctet}
 use Rattle.text.specs.Decimal.{decimalOf}
 use Rattle.text.specs.Hex.{hexOf}
@@ -15,7 +15,7 @@ use Rattle.trace_lines.specs.declared.report.Columns.{Columns}
 -- "the last two columns the type sent in hexadecimal or `-`"
 abbrev pub typeColumn : Sent → List ℕ
 typeColumn Sent.Absent = dash
-typeColumn (Sent.Present m) = hexOf (typeOctet (m .kind))
+typeColumn (Sent.Present m) = hexOf (kindOctet (m .kind))
 
 -- a line is the line of `replay` and two more columns: only where the messages are explained
 abbrev pub saidColumns : Bool → Columns → List ℕ

@@ -40,7 +40,7 @@ use Rattle.call.specs.Tick.{passesTickOf, tickOf}
 use Rattle.call.specs.Step.{notAnEventOf, stepOf}
 use Rattle.table.specs.declared.choice.Choice.{Choice}
 use Rattle.table.specs.declared.settle.Outcome.{Outcome}
-use Rattle.table.specs.Settle.{settledOf, tableRefusalOf, answeringOf as settledOutcome}
+use Rattle.table.specs.Settle.{settledOf, tableRefusalOf, heardOutcomeOf}
 use Rattle.table.specs.Step.{outcomeAt, stepOutcome}
 use Rattle.logic.proofs.Decide.{by-cond}
 use Rattle.call_promises.proofs.Failing.{alerting-cause, connect-cause}
@@ -151,7 +151,7 @@ pub record Tells (o : Outcome) : Type 0 where
   pub called : SentIn (o .called)
 
 chosen-tells : (calls : List Call) (x : Choice) (e : Event) (l : List ℕ) → Tells (outcomeAt calls x e l)
-unfolding settledOf settledOutcome tableRefusalOf
+unfolding settledOf heardOutcomeOf tableRefusalOf
 chosen-tells calls (Choice.At i) e l = let s = says _ e l in record { calling = s .calling; called = s .called }
 chosen-tells calls (Choice.Refused v) e l = record { calling = tt; called = tt }
 
