@@ -37,7 +37,7 @@ use Rattle.call.specs.Sound.{soundOf}
 use Rattle.call.specs.Step.{notAnEventOf, stepOf}
 use Rattle.call.specs.Tick.{passesTickOf, tickOf}
 use Rattle.call_promises.specs.Ranges.{Unsound}
-use Rattle.call_promises.specs.Numbers.{NotAnEvent, Allowed, OutOfRange, WellFormed, Has, Asks, ServesTwo, ServesThree, IsRequest, IsAnswer, meterFrom, other, answerRows, Answers}
+use Rattle.call_promises.specs.Numbers.{NotAnEvent, Allowed, OutOfRange, Informs, sends, Says, tells, InForce, WellFormed, Has, Asks, ServesTwo, ServesThree, IsRequest, IsAnswer, meterFrom, other, answerRows, Answers}
 use Rattle.logic.proofs.Decide.{never, by-cond, Decides, Denies, denied, via, both, either, neither, as-is, always, over}
 use Rattle.call_promises.proofs.Phases.{fresh, requested, connectable, talking, active, up, live}
 use Rattle.call_promises.proofs.Ranges.{unsound, reference-range, rights-range}
@@ -88,13 +88,25 @@ first-rows : (c : Call) (e : Event) (l : List ℕ) (a g : Bool) (r : Reply) → 
 first-rows c e l a g r o p q f =
     heard-rows c r (Unsound c) (NotAnEvent e) (Allowed e (c .phase)) (OutOfRange e) (laterRows c e l) _ a g refl (unsound c) (proper e o) p q f
 
+-- a condition in other words, and the rows after it
+swap : {P Q : Type 0} {k n : ℕ} (rows others : Rows) → (P → Q) → (Q → P) → (First rows n → First others n) → First (row P k rows) n → First (row Q k others) n
+swap rows others f g h (inl x) = inl (f (x .0), x .1)
+swap rows others f g h (inr x) = inr ((λ q. x .0 (g q)), h (x .1))
+
+sent : {P : Side → Type 0} {side : Side} {more : Bool} → Informs P (Event.Information side more) → P side
+sent (sends p) = p
+
+told : {P : Side → What → Type 0} {side : Side} {what : What} → Says P (Event.Facility side what) → P side what
+told (tells p) = p
+
 -- rows that never apply
-void : {i j k n : ℕ} → n ≡ 0 → First (row ⊥ i (row ⊥ j (row ⊥ k end))) n
-void e = inr ((λ x. x), inr ((λ x. x), inr ((λ x. x), e)))
+void : {e : Event} {A B C : Side → What → Type 0} {i j k n : ℕ} → ({P : Side → What → Type 0} → Says P e → ⊥) → n ≡ 0 → First (row (Says A e) i (row (Says B e) j (row (Says C e) k end))) n
+void no z = inr (no, inr (no, inr (no, z)))
 
 -- an event that nothing further keeps from being taken
-no-more : {f g h i j k n : ℕ} → n ≡ 0 → First (row ⊥ f (row ⊥ g (row ⊥ h (row ⊥ i (row ⊥ j (row ⊥ k end)))))) n
-no-more e = inr ((λ x. x), inr ((λ x. x), inr ((λ x. x), void e)))
+no-more : {e : Event} {A B C : Side → Type 0} {D E F : Side → What → Type 0} {f g h i j k n : ℕ} → ({P : Side → Type 0} → Informs P e → ⊥) → ({P : Side → What → Type 0} → Says P e → ⊥) → n ≡ 0
+    → First (row (Informs A e) f (row (Informs B e) g (row (Informs C e) h (row (Says D e) i (row (Says E e) j (row (Says F e) k end)))))) n
+no-more un no z = inr (un, inr (un, inr (un, void no z)))
 
 -- USER INFORMATION
 abbrev passageRows : Meter → Type 0 → Type 0 → Rows → Rows
@@ -144,12 +156,15 @@ module _ (c : Call) (side : Side) (more : Bool) (l : List ℕ) where
 
   carried-rows : First (passageRows (meterFrom c side) (ServesTwo c side) (ServesThree c) restRows) (numberOf (carriedOf c side more (informationPassageOf c side) .answer))
   unfolding carriedOf replyOf informationPassageOf
-  carried-rows = rw same-meter (passage-rows (meterFrom c side) _ _ restRows (void refl) _ _ (serves-two c side) (serves-three c))
+  carried-rows = rw same-meter (passage-rows (meterFrom c side) _ _ restRows (void (λ x. elim x [ ]) refl) _ _ (serves-two c side) (serves-three c))
 
   later-information : {s : Seen} → Sight l (c .rights .limit) s → First (laterRows c (Event.Information side more) l) (numberOf (withElementOf c s (carriedOf c side more (informationPassageOf c side)) .answer))
   later-information v =
-      element-rows c l (c .rights .limit) (carriedOf c side more (informationPassageOf c side))
-      (passageRows (meterFrom c side) (ServesTwo c side) (ServesThree c) restRows) v carried-rows
+      swap (passageRows (meterFrom c side) (ServesTwo c side) (ServesThree c) restRows) _ sends sent
+      (swap (row ((ServesTwo c side → 2 ≤ meterFrom c side .count) × (ServesThree c → meterFrom c side .credit ≡ 0)) 14 restRows) _ sends sent
+      (swap restRows restRows sends sent (λ x. x)))
+      (element-rows c l (c .rights .limit) (carriedOf c side more (informationPassageOf c side))
+      (passageRows (meterFrom c side) (ServesTwo c side) (ServesThree c) restRows) v carried-rows)
 
 -- FACILITY
 nand : (a b : Bool) {P Q : Type 0} → Decides a P → Decides b Q → Denies (a && b) ((P → ⊥) ⊎ (Q → ⊥))
@@ -202,13 +217,17 @@ answer-no-request what a r =
     (λ e. ⊎-elim (λ f. let z : _≡_ {A = ℕ} 0 1 = cc in omega arith) (λ f. let z : _≡_ {A = ℕ} 0 1 = cc in omega arith) r) a
 
 module _ (c : Call) (l : List ℕ) (side : Side) where
-  abbrev sayRows : What → Rows
-  sayRows what = lastRows c (Event.Facility side what) l
+  -- the conditions of 18, 16 and 15 where FACILITY says this
+  abbrev required barred shut : What → Type 0
+  required what = what ≡ What.Required
+  barred what = IsRequest what × ((Has (c .rights) Service.Three → ⊥) ⊎ ((side ≡ Side.Called) × (c .rights .leave ≡ true → ⊥)))
+  shut what =
+      InForce (c .standings .three) ⊎ ((IsRequest what × Asks c side) ⊎ (IsAnswer what × (Asks c (other side) → ⊥)))
 
-  required-rows : First (sayRows What.Required) 18
-  required-rows = inl (refl, refl)
+  abbrev plainRows : What → Rows
+  plainRows what = row (required what) 18 (row (barred what) 16 (row (shut what) 15 end))
 
-  preferred-rows : First (sayRows What.Preferred) (numberOf (facilityVerdictOf c side What.Preferred))
+  preferred-rows : First (plainRows What.Preferred) (numberOf (facilityVerdictOf c side What.Preferred))
   unfolding facilityVerdictOf
   preferred-rows =
       let m = may-ask (c .rights) side in
@@ -218,7 +237,7 @@ module _ (c : Call) (l : List ℕ) (side : Side) where
       (⊎-elim (λ i. inl i) (⊎-elim (λ x. inr (x .1)) (λ x. absurd (not-said (x .0)))))
       d)
 
-  answer-rows : (what : What) → IsAnswer what → First (sayRows what) (numberOf (toAnswerOf (inForceOf (c .standings .three) || not (asksOf (c .asking) (peerOf side)))))
+  answer-rows : (what : What) → IsAnswer what → First (plainRows what) (numberOf (toAnswerOf (inForceOf (c .standings .three) || not (asksOf (c .asking) (peerOf side)))))
   answer-rows what a =
       let d = either _ _ (in-force (c .standings .three)) (neither _ (asks-other c side)) in
       said-rows _ _ _ _ (λ e. answer-no-request what a (inr e)) (λ x. answer-no-request what a (x .0))
@@ -226,12 +245,18 @@ module _ (c : Call) (l : List ℕ) (side : Side) where
       (⊎-elim (λ i. inl i) (⊎-elim (λ x. absurd (answer-no-request what a (x .0))) (λ x. inr (x .1))))
       d)
 
-  say-rows : (what : What) → First (sayRows what) (numberOf (facilityVerdictOf c side what))
+  plain-rows : (what : What) → First (plainRows what) (numberOf (facilityVerdictOf c side what))
   unfolding facilityVerdictOf
-  say-rows What.Preferred = preferred-rows
-  say-rows What.Accept = answer-rows What.Accept (inl refl)
-  say-rows What.Reject = answer-rows What.Reject (inr refl)
-  say-rows What.Required = required-rows
+  plain-rows What.Preferred = preferred-rows
+  plain-rows What.Accept = answer-rows What.Accept (inl refl)
+  plain-rows What.Reject = answer-rows What.Reject (inr refl)
+  plain-rows What.Required = inl (refl, refl)
+
+  say-rows : (what : What) → First (lastRows c (Event.Facility side what) l) (numberOf (facilityVerdictOf c side what))
+  say-rows what =
+      swap (row (barred what) 16 (row (shut what) 15 end)) _ tells told
+      (swap (row (shut what) 15 end) _ tells told (swap end end tells told (λ x. x)))
+      (plain-rows what)
 
 not-an-event-rows : (c : Call) (e : Event) (l : List ℕ) (s : Bool) → soundOf c ≡ s → Denies s (Unsound c) → NotAnEvent e → First (answerRows c e l) (numberOf (notAnEventOf c .answer))
 unfolding notAnEventOf refusedOf
@@ -242,25 +267,25 @@ pub answer-first : (c : Call) (e : Event) (l : List ℕ) → First (answerRows c
 unfolding setupOf proceedsOf alertingOf connectOf informationOf facilityOf passesFacilityOf disconnectOf passedOnOf replyOf releaseCompleteOf endsOf tickOf passesTickOf
 answer-first c (Event.Setup reference rights q) l =
     first-rows c (Event.Setup reference rights q) l _ _ _ refl (denied _ (fresh (c .phase)))
-    (denied _ (both _ _ (reference-range reference) (rights-range rights))) (no-more refl)
+    (denied _ (both _ _ (reference-range reference) (rights-range rights))) (no-more (λ x. elim x [ ]) (λ x. elim x [ ]) refl)
 answer-first c (Event.Alerting answers) l =
     first-rows c (Event.Alerting answers) l _ _ _ refl (denied _ (requested (c .phase))) always
-    (no-more (rw (answered-taken c _ _ _ l) refl))
+    (no-more (λ x. elim x [ ]) (λ x. elim x [ ]) (rw (answered-taken c _ _ _ l) refl))
 answer-first c (Event.Connect answers) l =
     first-rows c (Event.Connect answers) l _ _ _ refl (denied _ (connectable (c .phase))) always
-    (no-more (rw (answered-taken c _ _ _ l) refl))
+    (no-more (λ x. elim x [ ]) (λ x. elim x [ ]) (rw (answered-taken c _ _ _ l) refl))
 answer-first c (Event.Information side more) l =
     first-rows c (Event.Information side more) l _ _ _ refl (denied _ (talking (c .phase))) always
     (later-information c side more l (sight l (c .rights .limit)))
 answer-first c (Event.Facility side what) l =
     first-rows c (Event.Facility side what) l _ _ _ refl (denied _ (active (c .phase))) always
-    (inr ((λ x. x), inr ((λ x. x), inr ((λ x. x), say-rows c l side what))))
+    (inr ((λ x. elim x [ ]), inr ((λ x. elim x [ ]), inr ((λ x. elim x [ ]), say-rows c l side what))))
 answer-first c (Event.Disconnect side cause answers) l =
-    first-rows c (Event.Disconnect side cause answers) l _ _ _ refl (denied _ (up (c .phase))) (over cause 127) (no-more refl)
+    first-rows c (Event.Disconnect side cause answers) l _ _ _ refl (denied _ (up (c .phase))) (over cause 127) (no-more (λ x. elim x [ ]) (λ x. elim x [ ]) refl)
 answer-first c (Event.ReleaseComplete side) l =
-    first-rows c (Event.ReleaseComplete side) l _ _ _ refl (denied _ (live (c .phase))) always (no-more refl)
+    first-rows c (Event.ReleaseComplete side) l _ _ _ refl (denied _ (live (c .phase))) always (no-more (λ x. elim x [ ]) (λ x. elim x [ ]) refl)
 answer-first c Event.Tick l =
-    first-rows c Event.Tick l _ _ _ refl (denied _ (live (c .phase))) always (no-more refl)
+    first-rows c Event.Tick l _ _ _ refl (denied _ (live (c .phase))) always (no-more (λ x. elim x [ ]) (λ x. elim x [ ]) refl)
 answer-first c Event.CallProceeding l = not-an-event-rows c _ l _ refl (unsound c) (inl refl)
 answer-first c Event.CongestionControl l = not-an-event-rows c _ l _ refl (unsound c) (inr refl)
 

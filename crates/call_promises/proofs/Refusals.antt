@@ -38,7 +38,7 @@ use Rattle.call.specs.Setup.{proceedsOf, setupOf}
 use Rattle.call.specs.Sound.{soundOf}
 use Rattle.call.specs.Step.{notAnEventOf}
 use Rattle.call.specs.Tick.{passesTickOf, tickOf}
-use Rattle.call_promises.specs.Numbers.{ServesThree}
+use Rattle.call_promises.specs.Numbers.{ServesThree, sends, tells}
 use Rattle.call_promises.specs.Refusals.{Unmoved, Marks, Drops, Rejects, Refusal, Refusals}
 use Rattle.logic.proofs.Decide.{never, by-cond, Decides}
 use Rattle.call_promises.proofs.Heard.{Bar, unsound, phase, range, Heard, through, barred, heard}
@@ -103,7 +103,7 @@ module _ (c : Call) (side : Side) (more : Bool) where
   unfolding carriedOf replyOf
   fourteen-fair p e x n =
       record {
-        fourteen = λ _. x;
+        fourteen = λ _. sends x;
         sixteen = λ h. absurd (let k : _≡_ {A = ℕ} 14 16 = rw e at h in omega arith);
         others = λ a b. absurd (a (rw e refl));
       }
@@ -168,7 +168,7 @@ module _ (c : Call) (what : What) where
 
     not-granted-fair : FairVerdict c side what Answer.NotGranted
     unfolding passesFacilityOf replyOf
-    not-granted-fair n = record { fourteen = λ h. absurd (omega arith); sixteen = λ _. rejects side; others = λ a b. absurd (b refl) }
+    not-granted-fair n = record { fourteen = λ h. absurd (omega arith); sixteen = λ _. tells (rejects side); others = λ a b. absurd (b refl) }
 
     not-open-fair : FairVerdict c side what Answer.NotOpen
     unfolding passesFacilityOf replyOf

@@ -2,7 +2,7 @@
 use Prim.Native.Nat.{ℕ, _-_, _/_, _%_, _<_, _≤_}
 use mathlib.Core.List.{List}
 use mathlib.Core.Logic.{_⊎_}
-use mathlib.Core.Bool.{true}
+use mathlib.Core.Bool.{Bool, true}
 use mathlib.Core.Path.{_≡_}
 use lib.ListN.{length, getD}
 use Rattle.logic.specs.First.{Rows, end, row, Exactly}
@@ -52,30 +52,12 @@ OutOfRange Event.CallProceeding = ⊥
 OutOfRange Event.CongestionControl = ⊥
 
 -- the event is USER INFORMATION, and P holds of the side that sends it
-abbrev pub Informs : Event → (Side → Type 0) → Type 0
-Informs (Event.Setup reference rights requests) P = ⊥
-Informs (Event.Alerting answers) P = ⊥
-Informs (Event.Connect answers) P = ⊥
-Informs (Event.Information side more) P = P side
-Informs (Event.Facility side what) P = ⊥
-Informs (Event.Disconnect side cause answers) P = ⊥
-Informs (Event.ReleaseComplete side) P = ⊥
-Informs Event.Tick P = ⊥
-Informs Event.CallProceeding P = ⊥
-Informs Event.CongestionControl P = ⊥
+pub data Informs (P : Side → Type 0) : Event → Type 0 where
+  sends : {side : Side} {more : Bool} → P side → Informs P (Event.Information side more)
 
 -- the event is FACILITY, and P holds of its side and of what it says of service 3
-abbrev pub Says : Event → (Side → What → Type 0) → Type 0
-Says (Event.Setup reference rights requests) P = ⊥
-Says (Event.Alerting answers) P = ⊥
-Says (Event.Connect answers) P = ⊥
-Says (Event.Information side more) P = ⊥
-Says (Event.Facility side what) P = P side what
-Says (Event.Disconnect side cause answers) P = ⊥
-Says (Event.ReleaseComplete side) P = ⊥
-Says Event.Tick P = ⊥
-Says Event.CallProceeding P = ⊥
-Says Event.CongestionControl P = ⊥
+pub data Says (P : Side → What → Type 0) : Event → Type 0 where
+  tells : {side : Side} {what : What} → P side what → Says P (Event.Facility side what)
 
 -- an element that begins 126 and its length less 2, of 3 octets at least
 pub record WellFormed (l : List ℕ) : Type 0 where
@@ -85,7 +67,7 @@ pub record WellFormed (l : List ℕ) : Type 0 where
 
 -- 17: "USER INFORMATION, element absent, under 3 octets or over the limit", "which note 1 also brings"
 abbrev pub BadElement : Call → Event → List ℕ → Type 0
-BadElement c e l = Informs e (λ side. WellFormed l × (length l ≤ c .rights .limit) → ⊥)
+BadElement c e l = Informs (λ side. WellFormed l × (length l ≤ c .rights .limit) → ⊥) e
 
 abbrev pub InForce : Standing → Type 0
 InForce s = s ≡ Standing.InForce
@@ -106,11 +88,12 @@ ServesThree c = (c .phase ≡ Phase.Active) × InForce (c .standings .three)
 
 -- 13: "USER INFORMATION, no service in force for it"
 abbrev pub NoService : Call → Event → Type 0
-NoService c e = Informs e (λ side. (ServesTwo c side → ⊥) × (ServesThree c → ⊥))
+NoService c e = Informs (λ side. (ServesTwo c side → ⊥) × (ServesThree c → ⊥)) e
 
 -- 14: "USER INFORMATION, count or credit spent". Of every service that serves it nothing is left.
 abbrev pub Spent : Call → Event → Type 0
-Spent c e = Informs e (λ side. (ServesTwo c side → 2 ≤ meterFrom c side .count) × (ServesThree c → meterFrom c side .credit ≡ 0))
+Spent c e =
+    Informs (λ side. (ServesTwo c side → 2 ≤ meterFrom c side .count) × (ServesThree c → meterFrom c side .credit ≡ 0)) e
 
 -- a request for service 3 while connected, and an answer to one
 abbrev pub IsRequest : What → Type 0
@@ -121,7 +104,7 @@ IsAnswer what = (what ≡ What.Accept) ⊎ (what ≡ What.Reject)
 
 -- 18: "service 3 asked as required while connected"
 abbrev pub AskedRequired : Event → Type 0
-AskedRequired e = Says e (λ side what. what ≡ What.Required)
+AskedRequired e = Says (λ side what. what ≡ What.Required) e
 
 -- the rights have a service: "bit 0 is service 1"
 abbrev pub Has : Rights → Service → Type 0
@@ -132,8 +115,9 @@ Has r Service.Three = r .services / 4 % 2 ≡ 1
 -- 16: "service 3 asked while connected, not in the rights, or by the called side without leave"
 abbrev pub NotGranted : Call → Event → Type 0
 NotGranted c e =
-    Says e
+    Says
     (λ side what. IsRequest what × ((Has (c .rights) Service.Three → ⊥) ⊎ ((side ≡ Side.Called) × (c .rights .leave ≡ true → ⊥))))
+    e
 
 -- "Each side has its own open request."
 abbrev pub Asks : Call → Side → Type 0
@@ -147,9 +131,10 @@ other Side.Called = Side.Calling
 -- 15: "service 3 in force, asker's own request open, or an answer with no open request of the other side"
 abbrev pub NotOpen : Call → Event → Type 0
 NotOpen c e =
-    Says e
+    Says
     (λ side what.
     InForce (c .standings .three) ⊎ ((IsRequest what × Asks c side) ⊎ (IsAnswer what × (Asks c (other side) → ⊥))))
+    e
 
 -- "25 comes first of 11 to 25; .. then the call 12, 11, 24, then: for USER INFORMATION 17, 13, 14; for a request 18, 16, 15; for an answer 15."
 abbrev pub answerRows : Call → Event → List ℕ → Rows

@@ -100,8 +100,8 @@ pub record Rejects (c : Call) (side : Side) (r : Reply) : Type 0 where
   pub on : sentTo r (other side) ≡ Sent.Absent
 
 pub record Refusal (c : Call) (e : Event) (n : ℕ) (r : Reply) : Type 0 where
-  pub fourteen : n ≡ 14 → Informs e (λ side. Marks c side r ⊎ Drops c side r)
-  pub sixteen : n ≡ 16 → Says e (λ side what. Rejects c side r)
+  pub fourteen : n ≡ 14 → Informs (λ side. Marks c side r ⊎ Drops c side r) e
+  pub sixteen : n ≡ 16 → Says (λ side what. Rejects c side r) e
   pub others : (n ≡ 14 → ⊥) → (n ≡ 16 → ⊥) → Unmoved c r
 
 -- REFUSALS. An answer other than 0 leaves the whole record as it was and sends nothing; but for 14 and 16.

@@ -29,7 +29,7 @@ use Rattle.table.specs.Choice.{wantedOf, meantReferenceOf, opensOf, setupRanged
 use Rattle.table.specs.Verdict.{verdictNumber}
 use Rattle.table.specs.Settle.{subjectOf, changesOf, recordKeptOf, heardOutcomeOf, tableRefusalOf, settledOf}
 use Rattle.table.specs.Step.{outcomeAt, tableAt, stepOutcome, stepTable}
-use Rattle.table_promises.specs.Table.{heldCall, SetsUp, setup, Other, tableRows, numberAt, Table, Refused, OneChanged, OnePlace, LiveAt, Lowest, Names, lowest, held, Named, OneSpent, Fourteen}
+use Rattle.table_promises.specs.Table.{heldCall, SetsUp, setup, Other, tableRows, numberAt, Table, Refused, OneChanged, OnePlace, LiveAt, Lowest, Names, lowest, holding, Named, OneSpent, Fourteen}
 use Rattle.table.specs.declared.choice.Spot.{Spot}
 use Rattle.table.specs.declared.choice.Choice.{Choice}
 use Rattle.table.specs.declared.verdict.Verdict.{Verdict}
@@ -206,7 +206,7 @@ other-chosen t n e eo = λ j. choiceOf (tableSound t) (eo j) (setupRangedOf e) (
 pub chosen-names : (t : List Call) (n : ℕ) (e : Event) (i : ℕ) → chosenOf t n e ≡ Choice.At i → Names t n i e
 chosen-names t n e i c =
     either-way (opensOf e) (λ eo. of-setup (λ e. chosenOf t n e ≡ Choice.At i → Names t n i e) (setup-names t n i) e eo c)
-    (λ eo. held (no-setup e eo) (old-names t n (tableSound t) (setupRangedOf e) (placeFrom t 0) i (sym (other-chosen t n e eo) ∙ c)))
+    (λ eo. holding (no-setup e eo) (old-names t n (tableSound t) (setupRangedOf e) (placeFrom t 0) i (sym (other-chosen t n e eo) ∙ c)))
 
 place-named : (t : List Call) (n : ℕ) (e : Event) (l : List ℕ) (i m : ℕ) (s : Bool) → eqb i m ≡ s → chosenOf t n e ≡ Choice.At m → (getD (set t m (settledOf (getD t m freshCall) e l .call)) i freshCall ≡ getD t i freshCall → ⊥) → Names t n i e
 place-named t n e l i m true es ec h = chosen-names t n e i (ec ∙ ap Choice.At (sym (eqb-true i m es)))

@@ -97,7 +97,7 @@ pub record Lowest (t : List Call) (i : ℕ) : Type 0 where
 
 pub data Names (t : List Call) (n i : ℕ) : Event → Type 0 where
   lowest : {reference : ℕ} {rights : Rights} {requests : Requests} → Lowest t i → Names t n i (Event.Setup reference rights requests)
-  held : {e : Event} → Other e → LiveAt t i n → Names t n i e
+  holding : {e : Event} → Other e → LiveAt t i n → Names t n i e
 
 abbrev pub Named : Type 0
 Named =
