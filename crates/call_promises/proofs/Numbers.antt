@@ -100,13 +100,13 @@ told : {P : Side → What → Type 0} {side : Side} {what : What} → Says P (Ev
 told (tells p) = p
 
 -- rows that never apply
-void : {e : Event} {A B C : Side → What → Type 0} {i j k n : ℕ} → ({P : Side → What → Type 0} → Says P e → ⊥) → n ≡ 0 → First (row (Says A e) i (row (Says B e) j (row (Says C e) k end))) n
-void no z = inr (no, inr (no, inr (no, z)))
+void : {e : Event} {A B C : Side → What → Type 0} {i j k n : ℕ} → ((P : Side → What → Type 0) → Says P e → ⊥) → n ≡ 0 → First (row (Says A e) i (row (Says B e) j (row (Says C e) k end))) n
+void mute z = inr (mute _, inr (mute _, inr (mute _, z)))
 
 -- an event that nothing further keeps from being taken
-no-more : {e : Event} {A B C : Side → Type 0} {D E F : Side → What → Type 0} {f g h i j k n : ℕ} → ({P : Side → Type 0} → Informs P e → ⊥) → ({P : Side → What → Type 0} → Says P e → ⊥) → n ≡ 0
+no-more : {e : Event} {A B C : Side → Type 0} {D E F : Side → What → Type 0} {f g h i j k n : ℕ} → ((P : Side → Type 0) → Informs P e → ⊥) → ((P : Side → What → Type 0) → Says P e → ⊥) → n ≡ 0
     → First (row (Informs A e) f (row (Informs B e) g (row (Informs C e) h (row (Says D e) i (row (Says E e) j (row (Says F e) k end)))))) n
-no-more un no z = inr (un, inr (un, inr (un, void no z)))
+no-more still mute z = inr (still _, inr (still _, inr (still _, void mute z)))
 
 -- USER INFORMATION
 abbrev passageRows : Meter → Type 0 → Type 0 → Rows → Rows
@@ -156,12 +156,12 @@ module _ (c : Call) (side : Side) (more : Bool) (l : List ℕ) where
 
   carried-rows : First (passageRows (meterFrom c side) (ServesTwo c side) (ServesThree c) restRows) (numberOf (carriedOf c side more (informationPassageOf c side) .answer))
   unfolding carriedOf replyOf informationPassageOf
-  carried-rows = rw same-meter (passage-rows (meterFrom c side) _ _ restRows (void (λ x. elim x [ ]) refl) _ _ (serves-two c side) (serves-three c))
+  carried-rows = rw same-meter (passage-rows (meterFrom c side) _ _ restRows (void (λ P x. elim x [ ]) refl) _ _ (serves-two c side) (serves-three c))
 
   later-information : {s : Seen} → Sight l (c .rights .limit) s → First (laterRows c (Event.Information side more) l) (numberOf (withElementOf c s (carriedOf c side more (informationPassageOf c side)) .answer))
   later-information v =
-      swap (passageRows (meterFrom c side) (ServesTwo c side) (ServesThree c) restRows) _ sends sent
-      (swap (row ((ServesTwo c side → 2 ≤ meterFrom c side .count) × (ServesThree c → meterFrom c side .credit ≡ 0)) 14 restRows) _ sends sent
+      swap (passageRows (meterFrom c side) (ServesTwo c side) (ServesThree c) restRows) (after (laterRows c (Event.Information side more) l)) sends sent
+      (swap (row ((ServesTwo c side → 2 ≤ meterFrom c side .count) × (ServesThree c → meterFrom c side .credit ≡ 0)) 14 restRows) (after (after (laterRows c (Event.Information side more) l))) sends sent
       (swap restRows restRows sends sent (λ x. x)))
       (element-rows c l (c .rights .limit) (carriedOf c side more (informationPassageOf c side))
       (passageRows (meterFrom c side) (ServesTwo c side) (ServesThree c) restRows) v carried-rows)
@@ -218,9 +218,13 @@ answer-no-request what a r =
 
 module _ (c : Call) (l : List ℕ) (side : Side) where
   -- the conditions of 18, 16 and 15 where FACILITY says this
-  abbrev required barred shut : What → Type 0
+  abbrev required : What → Type 0
   required what = what ≡ What.Required
+
+  abbrev barred : What → Type 0
   barred what = IsRequest what × ((Has (c .rights) Service.Three → ⊥) ⊎ ((side ≡ Side.Called) × (c .rights .leave ≡ true → ⊥)))
+
+  abbrev shut : What → Type 0
   shut what =
       InForce (c .standings .three) ⊎ ((IsRequest what × Asks c side) ⊎ (IsAnswer what × (Asks c (other side) → ⊥)))
 
@@ -254,8 +258,8 @@ module _ (c : Call) (l : List ℕ) (side : Side) where
 
   say-rows : (what : What) → First (lastRows c (Event.Facility side what) l) (numberOf (facilityVerdictOf c side what))
   say-rows what =
-      swap (row (barred what) 16 (row (shut what) 15 end)) _ tells told
-      (swap (row (shut what) 15 end) _ tells told (swap end end tells told (λ x. x)))
+      swap (row (barred what) 16 (row (shut what) 15 end)) (after (lastRows c (Event.Facility side what) l)) tells told
+      (swap (row (shut what) 15 end) (after (after (lastRows c (Event.Facility side what) l))) tells told (swap end end tells told (λ x. x)))
       (plain-rows what)
 
 not-an-event-rows : (c : Call) (e : Event) (l : List ℕ) (s : Bool) → soundOf c ≡ s → Denies s (Unsound c) → NotAnEvent e → First (answerRows c e l) (numberOf (notAnEventOf c .answer))
@@ -267,13 +271,13 @@ pub answer-first : (c : Call) (e : Event) (l : List ℕ) → First (answerRows c
 unfolding setupOf proceedsOf alertingOf connectOf informationOf facilityOf passesFacilityOf disconnectOf passedOnOf replyOf releaseCompleteOf endsOf tickOf passesTickOf
 answer-first c (Event.Setup reference rights q) l =
     first-rows c (Event.Setup reference rights q) l _ _ _ refl (denied _ (fresh (c .phase)))
-    (denied _ (both _ _ (reference-range reference) (rights-range rights))) (no-more (λ x. elim x [ ]) (λ x. elim x [ ]) refl)
+    (denied _ (both _ _ (reference-range reference) (rights-range rights))) (no-more (λ P x. elim x [ ]) (λ P x. elim x [ ]) refl)
 answer-first c (Event.Alerting answers) l =
     first-rows c (Event.Alerting answers) l _ _ _ refl (denied _ (requested (c .phase))) always
-    (no-more (λ x. elim x [ ]) (λ x. elim x [ ]) (rw (answered-taken c _ _ _ l) refl))
+    (no-more (λ P x. elim x [ ]) (λ P x. elim x [ ]) (rw (answered-taken c _ _ _ l) refl))
 answer-first c (Event.Connect answers) l =
     first-rows c (Event.Connect answers) l _ _ _ refl (denied _ (connectable (c .phase))) always
-    (no-more (λ x. elim x [ ]) (λ x. elim x [ ]) (rw (answered-taken c _ _ _ l) refl))
+    (no-more (λ P x. elim x [ ]) (λ P x. elim x [ ]) (rw (answered-taken c _ _ _ l) refl))
 answer-first c (Event.Information side more) l =
     first-rows c (Event.Information side more) l _ _ _ refl (denied _ (talking (c .phase))) always
     (later-information c side more l (sight l (c .rights .limit)))
@@ -281,11 +285,11 @@ answer-first c (Event.Facility side what) l =
     first-rows c (Event.Facility side what) l _ _ _ refl (denied _ (active (c .phase))) always
     (inr ((λ x. elim x [ ]), inr ((λ x. elim x [ ]), inr ((λ x. elim x [ ]), say-rows c l side what))))
 answer-first c (Event.Disconnect side cause answers) l =
-    first-rows c (Event.Disconnect side cause answers) l _ _ _ refl (denied _ (up (c .phase))) (over cause 127) (no-more (λ x. elim x [ ]) (λ x. elim x [ ]) refl)
+    first-rows c (Event.Disconnect side cause answers) l _ _ _ refl (denied _ (up (c .phase))) (over cause 127) (no-more (λ P x. elim x [ ]) (λ P x. elim x [ ]) refl)
 answer-first c (Event.ReleaseComplete side) l =
-    first-rows c (Event.ReleaseComplete side) l _ _ _ refl (denied _ (live (c .phase))) always (no-more (λ x. elim x [ ]) (λ x. elim x [ ]) refl)
+    first-rows c (Event.ReleaseComplete side) l _ _ _ refl (denied _ (live (c .phase))) always (no-more (λ P x. elim x [ ]) (λ P x. elim x [ ]) refl)
 answer-first c Event.Tick l =
-    first-rows c Event.Tick l _ _ _ refl (denied _ (live (c .phase))) always (no-more (λ x. elim x [ ]) (λ x. elim x [ ]) refl)
+    first-rows c Event.Tick l _ _ _ refl (denied _ (live (c .phase))) always (no-more (λ P x. elim x [ ]) (λ P x. elim x [ ]) refl)
 answer-first c Event.CallProceeding l = not-an-event-rows c _ l _ refl (unsound c) (inl refl)
 answer-first c Event.CongestionControl l = not-an-event-rows c _ l _ refl (unsound c) (inr refl)
 
