@@ -1,5 +1,5 @@
 -- What goes out is whole and under a service, and what has no note goes out.
-use Prim.Native.Nat.{ℕ, _≤_}
+use Prim.Native.Nat.{ℕ, _<_, _≤_}
 use mathlib.Core.List.{List, []}
 use mathlib.Core.Bool.{Bool, true, false, cond, _&&_, not}
 use mathlib.Core.Logic.{_⊎_, inl, inr}
@@ -48,7 +48,7 @@ use Rattle.call.specs.Tick.{passesTickOf, tickOf}
 use Rattle.call_promises.specs.Numbers.{WellFormed, InForce, Has, ServesTwo, ServesThree, meterFrom, other}
 use Rattle.call_promises.specs.Notes.{Bare, limitFor}
 use Rattle.call_promises.specs.Refusals.{sentTo}
-use Rattle.call_promises.specs.Handling.{handedIn, Goes, setup, alerting, connect, information, disconnect, Whole, Unaltered, Unnoted, Out, GoesOut, Explicit, Implied, Under, UnderAService}
+use Rattle.call_promises.specs.Handling.{handedIn, Goes, setup, alerting, connect, information, disconnect, Whole, Unaltered, Unnoted, Out, GoesOut, Explicit, Implied, Under, opening, alerted, connected, counted, credited, cleared, UnderAService}
 use Rattle.logic.proofs.Decide.{never, by-cond, Decides, both, as-is, lt}
 use Rattle.call_promises.proofs.Heard.{bar-not-taken, Heard, through, barred, heard}
 use Rattle.call_promises.proofs.Conditions.{in-force, has, serves-two, serves-three}
@@ -78,7 +78,7 @@ data Way (e : Event) (to : Side) (l : List ℕ) (limit : ℕ) (P N : Type 0) : S
 
 record Passes (c : Call) (e : Event) (l : List ℕ) (r : Reply) : Type 0 where
   to : Side
-  on : Way e to l (limitFor c e) (Under c e l (r .call)) (Unnoted r) (sentTo r to)
+  on : Way e to l (limitFor c e) (Under c l (r .call) e) (Unnoted r) (sentTo r to)
   back : Plain (sentTo r (other to))
 
 refused-passes : (c : Call) (e : Event) (l : List ℕ) (x : Answer) (note : Note) → (Offers e l → numberOf x ≡ 0 → ⊥) → Passes c e l (refusedOf c x note)
@@ -152,13 +152,13 @@ setup-passes c reference rights q l =
           (λ y. plain tt (λ o n. never (setup-goes rights q _ (unnoted-so l _ _ (sight l (rights .limit)) (o .1) (n .1) .1)) (rw y refl)))
           (λ n.
           saying-way _ _ l (rights .limit) _ _ _ _ setup
-          (λ e w k h. let t = setup-under rights q l (seenOf l (rights .limit)) e w k h in (rw n refl, t .0, t .1)));
+          (λ e w k h. let t = setup-under rights q l (seenOf l (rights .limit)) e w k h in opening (rw n refl) (t .0) (t .1)));
       back = by-cond Plain (lacksOf rights q) (λ _. refl) (λ _. refl);
     }
 
 -- ALERTING and CONNECT
 module _ (c : Call) (e : Event) (l : List ℕ) (kind : Kind) (next : Phase) (f : Fates) where
-  outcome-passes : (x : Cause) → limitFor c e ≡ c .rights .limit → Goes e Side.Calling kind false → ((d : Call) → d .phase ≡ next → InForce (d .standings .one) → Under c e l d) → Passes c e l (answeringOf c kind next f (seenOf l (c .rights .limit)) x)
+  outcome-passes : (x : Cause) → limitFor c e ≡ c .rights .limit → Goes e Side.Calling kind false → ((d : Call) → d .phase ≡ next → InForce (d .standings .one) → Under c l d e) → Passes c e l (answeringOf c kind next f (seenOf l (c .rights .limit)) x)
   unfolding goesOnOf clearsOf answeredCallOf bareOf sayingOf
   outcome-passes Cause.Absent k g u =
       record {
@@ -173,12 +173,12 @@ module _ (c : Call) (e : Event) (l : List ℕ) (kind : Kind) (next : Phase) (f :
         back = refl;
       }
 
-  answered-passes : limitFor c e ≡ c .rights .limit → Goes e Side.Calling kind false → ((d : Call) → d .phase ≡ next → InForce (d .standings .one) → Under c e l d) → Passes c e l (answeredOf c kind next f l)
+  answered-passes : limitFor c e ≡ c .rights .limit → Goes e Side.Calling kind false → ((d : Call) → d .phase ≡ next → InForce (d .standings .one) → Under c l d e) → Passes c e l (answeredOf c kind next f l)
   unfolding answeredOf
   answered-passes = outcome-passes (failedOf f)
 
 -- a reply to one side's event, whose message to that side has no element
-side-passes : (c : Call) (e : Event) (l : List ℕ) (side : Side) (d : Call) (a : Answer) (note : Note) (back on : Sent) → Plain back → Way e (other side) l (limitFor c e) (Under c e l d) ((numberOf a ≡ 0) × (noteNumberOf note ≡ 0)) on → Passes c e l (replyOf side d a note back on)
+side-passes : (c : Call) (e : Event) (l : List ℕ) (side : Side) (d : Call) (a : Answer) (note : Note) (back on : Sent) → Plain back → Way e (other side) l (limitFor c e) (Under c l d e) ((numberOf a ≡ 0) × (noteNumberOf note ≡ 0)) on → Passes c e l (replyOf side d a note back on)
 unfolding replyOf
 side-passes c e l Side.Calling d a note back on p w = record { to = Side.Called; on = w; back = p }
 side-passes c e l Side.Called d a note back on p w = record { to = Side.Calling; on = w; back = p }
@@ -193,7 +193,10 @@ passage-taken Passage.Unserved = record { so = λ h. never h refl; back = λ h. 
 
 module _ (c : Call) (side : Side) where
   abbrev Served : Type 0
-  Served = Under c (Event.Information side false) [] c
+  Served = (ServesTwo c side × (meterFrom c side .count < 2)) ⊎ (ServesThree c × (0 < meterFrom c side .credit))
+
+  served-under : {l : List ℕ} {d : Call} {more : Bool} → Served → Under c l d (Event.Information side more)
+  served-under = ⊎-elim (λ x. counted (x .0) (x .1)) (λ x. credited (x .0) (x .1))
 
   meter-from : meterOf (c .meters) side ≡ meterFrom c side
   meter-from = elim side [ Side.Calling ↦ refl | Side.Called ↦ refl ]
@@ -220,7 +223,7 @@ module _ (c : Call) (side : Side) where
     carried-passes (whole z w k) =
         side-passes c _ l side _ _ _ _ _ (by-cond Plain (marksOf (informationPassageOf c side)) (λ _. refl) (λ _. tt))
         (by-cond (Way _ _ l _ _ _) (passesOf (informationPassageOf c side))
-        (λ h. goes refl information w k (passage-served h) (passage-taken (informationPassageOf c side) .so h, refl))
+        (λ h. goes refl information w k (served-under (passage-served h)) (passage-taken (informationPassageOf c side) .so h, refl))
         (λ h. plain tt (λ _ n. never (passage-taken (informationPassageOf c side) .back (n .0)) h)))
 
     information-passes : {s : Seen} → Sight l (c .rights .limit) s → Passes c (Event.Information side more) l (withElementOf c s (carriedOf c side more (informationPassageOf c side)))
@@ -235,9 +238,9 @@ passes : (c : Call) (e : Event) (l : List ℕ) → Passes c e l (stepOf c e l)
 unfolding setupOf alertingOf connectOf informationOf facilityOf passesFacilityOf aboutThreeOf disconnectOf passedOnOf closedCallOf releaseCompleteOf endsOf bareOf tickOf passesTickOf readyOf congestionOf notAnEventOf sayingOf
 passes c (Event.Setup reference rights q) l = heard-passes c _ l _ _ _ (heard c _ _ _) (setup-passes c reference rights q l)
 passes c (Event.Alerting answers) l =
-    heard-passes c _ l _ _ _ (heard c _ _ _) (answered-passes c _ l _ _ _ refl alerting (λ d p i. (p, i)))
+    heard-passes c _ l _ _ _ (heard c _ _ _) (answered-passes c _ l _ _ _ refl alerting (λ d p i. alerted p i))
 passes c (Event.Connect answers) l =
-    heard-passes c _ l _ _ _ (heard c _ _ _) (answered-passes c _ l _ _ _ refl connect (λ d p i. (p, i)))
+    heard-passes c _ l _ _ _ (heard c _ _ _) (answered-passes c _ l _ _ _ refl connect (λ d p i. connected p i))
 passes c (Event.Information side more) l =
     heard-passes c _ l _ _ _ (heard c _ _ _) (information-passes c side more l (sight l (c .rights .limit)))
 passes c (Event.Facility side what) l =
@@ -245,7 +248,7 @@ passes c (Event.Facility side what) l =
     (side-passes c _ l side _ _ _ _ _ (only-plain _ _ refl) (plain (only-plain _ _ refl) (λ o _. o .0 tt)))
 passes c (Event.Disconnect side cause answers) l =
     heard-passes c _ l _ _ _ (heard c _ _ _)
-    (side-passes c _ l side _ _ _ _ _ tt (saying-way _ _ l (c .rights .limit) _ _ _ _ disconnect (λ _ _ _ h. (refl, in-force _ .so h))))
+    (side-passes c _ l side _ _ _ _ _ tt (saying-way _ _ l (c .rights .limit) _ _ _ _ disconnect (λ _ _ _ h. cleared refl (in-force _ .so h))))
 passes c (Event.ReleaseComplete side) l =
     heard-passes c _ l _ _ _ (heard c _ _ _) (side-passes c _ l side _ _ _ _ _ tt (plain refl (λ o _. o .0 tt)))
 passes c Event.Tick l =
@@ -257,7 +260,7 @@ passes c Event.CongestionControl l = refused-passes c _ l _ _ (λ o _. o .0 tt)
 -- what a user is handed is what goes out to that user
 module _ (c : Call) (e : Event) (l : List ℕ) where
   abbrev OnTheWay : Side → Sent → Type 0
-  OnTheWay to s = Way e to l (limitFor c e) (Under c e l (stepOf c e l .call)) (Unnoted (stepOf c e l)) s
+  OnTheWay to s = Way e to l (limitFor c e) (Under c l (stepOf c e l .call) e) (Unnoted (stepOf c e l)) s
 
   none : (side to : Side) → Plain (sentTo (stepOf c e l) to) → Plain (sentTo (stepOf c e l) (other to)) → handedIn (sentTo (stepOf c e l) side) l ≡ []
   none Side.Calling Side.Calling p b = plain-empty (stepOf c e l .calling) l p
@@ -283,17 +286,17 @@ module _ (c : Call) (e : Event) (l : List ℕ) where
   way-out to h (goes {m} t g w k u n) b =
       record { unnoted = λ _ _ _. (to, entire to m h t g w k b); dropped = λ x. absurd (x n) }
 
-  way-whole : (side : Side) {s : Sent} → sentTo (stepOf c e l) side ≡ s → OnTheWay side s → Plain (sentTo (stepOf c e l) (other side)) → (handedIn s l ≡ [] → ⊥) → Whole c e l side × Under c e l (stepOf c e l .call)
+  way-whole : (side : Side) {s : Sent} → sentTo (stepOf c e l) side ≡ s → OnTheWay side s → Plain (sentTo (stepOf c e l) (other side)) → (handedIn s l ≡ [] → ⊥) → Whole c e l side × Under c l (stepOf c e l .call) e
   way-whole side {s} h (plain p f) b n = absurd (n (plain-empty s l p))
   way-whole side h (goes {m} t g w k u _) b n = (entire side m h t g w k b, u)
 
-  reaches : (side to : Side) → OnTheWay to (sentTo (stepOf c e l) to) → Plain (sentTo (stepOf c e l) (other to)) → (handedIn (sentTo (stepOf c e l) side) l ≡ [] → ⊥) → Whole c e l side × Under c e l (stepOf c e l .call)
+  reaches : (side to : Side) → OnTheWay to (sentTo (stepOf c e l) to) → Plain (sentTo (stepOf c e l) (other to)) → (handedIn (sentTo (stepOf c e l) side) l ≡ [] → ⊥) → Whole c e l side × Under c l (stepOf c e l .call) e
   reaches Side.Calling Side.Calling w b n = way-whole Side.Calling refl w b n
   reaches Side.Called Side.Called w b n = way-whole Side.Called refl w b n
   reaches Side.Calling Side.Called w b n = absurd (n (plain-empty (stepOf c e l .calling) l b))
   reaches Side.Called Side.Calling w b n = absurd (n (plain-empty (stepOf c e l .called) l b))
 
-handled : (c : Call) (e : Event) (l : List ℕ) (side : Side) → (handedIn (sentTo (stepOf c e l) side) l ≡ [] → ⊥) → Whole c e l side × Under c e l (stepOf c e l .call)
+handled : (c : Call) (e : Event) (l : List ℕ) (side : Side) → (handedIn (sentTo (stepOf c e l) side) l ≡ [] → ⊥) → Whole c e l side × Under c l (stepOf c e l .call) e
 handled c e l side = let p = passes c e l in reaches c e l side (p .to) (p .on) (p .back)
 
 pub unaltered : Unaltered

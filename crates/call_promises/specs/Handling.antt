@@ -79,23 +79,22 @@ pub record Implied (rights : Rights) (q : Requests) (l : List ℕ) : Type 0 wher
   pub limit : length l ≤ rights .limit
 
 -- Under which service the element of each event goes out. c is the record before the event, d the one after it.
-abbrev pub Under : Call → Event → List ℕ → Call → Type 0
-Under c (Event.Setup reference rights requests) l d =
-    (d .phase ≡ Phase.Requested) × Has rights Service.One × (Explicit (requests .one) ⊎ Implied rights requests l)
-Under c (Event.Alerting answers) l d = (d .phase ≡ Phase.Alerting) × InForce (d .standings .one)
-Under c (Event.Connect answers) l d = (d .phase ≡ Phase.Active) × InForce (d .standings .one)
-Under c (Event.Information side more) l d =
-    (ServesTwo c side × (meterFrom c side .count < 2)) ⊎ (ServesThree c × (0 < meterFrom c side .credit))
-Under c (Event.Facility side what) l d = ⊥
-Under c (Event.Disconnect side cause answers) l d = (d .phase ≡ Phase.Clearing) × InForce (d .standings .one)
-Under c (Event.ReleaseComplete side) l d = ⊥
-Under c Event.Tick l d = ⊥
-Under c Event.CallProceeding l d = ⊥
-Under c Event.CongestionControl l d = ⊥
+pub data Under (c : Call) (l : List ℕ) (d : Call) : Event → Type 0 where
+  opening : {reference : ℕ} {rights : Rights} {requests : Requests} →
+      d .phase ≡ Phase.Requested → Has rights Service.One → Explicit (requests .one) ⊎ Implied rights requests l →
+      Under c l d (Event.Setup reference rights requests)
+  alerted : {answers : Answers} → d .phase ≡ Phase.Alerting → InForce (d .standings .one) → Under c l d (Event.Alerting answers)
+  connected : {answers : Answers} → d .phase ≡ Phase.Active → InForce (d .standings .one) → Under c l d (Event.Connect answers)
+  counted : {side : Side} {more : Bool} →
+      ServesTwo c side → meterFrom c side .count < 2 → Under c l d (Event.Information side more)
+  credited : {side : Side} {more : Bool} →
+      ServesThree c → 0 < meterFrom c side .credit → Under c l d (Event.Information side more)
+  cleared : {side : Side} {cause : ℕ} {answers : Answers} →
+      d .phase ≡ Phase.Clearing → InForce (d .standings .one) → Under c l d (Event.Disconnect side cause answers)
 
 -- UNDER A SERVICE. A user is handed octets only where a service is in force for them in that phase or, in SETUP, service 1 is asked for and the
 -- rights have it.
 abbrev pub UnderAService : Type 0
 UnderAService =
     (c : Call) (e : Event) (l : List ℕ) (side : Side) →
-    (handedTo c e l side ≡ [] → ⊥) → Under c e l (stepOf c e l .call)
+    (handedTo c e l side ≡ [] → ⊥) → Under c l (stepOf c e l .call) e
