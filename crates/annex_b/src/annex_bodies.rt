@@ -1,4 +1,4 @@
-// The components of 7.1 and Annex B, and damaged ones.
+// The examples of 7.1 and Annex B on the bodies of Facility elements, and damaged ones.
 mod show;
 
 use crate::annex_bodies::show::reads_body;

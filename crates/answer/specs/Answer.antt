@@ -30,6 +30,7 @@ takenOf Answer.AskedRequired = false
 takenOf Answer.OutOfRange = false
 takenOf Answer.Unsound = false
 
--- "25 comes first of 11 to 25; .. then the call 12, 11, 24". allowed: the phase allows the event. ranged: reference, rights and cause are in range.
+-- "25 comes first of 11 to 25; .. then the call 12, 11, 24". allowed: the phase allows the event. ranged: reference,
+-- rights and cause are in range.
 abbrev pub firstBar : Bool → Bool → Bool → Answer
 firstBar sound allowed ranged = cond sound (cond allowed (cond ranged Answer.Taken Answer.OutOfRange) Answer.OutOfPhase) Answer.Unsound

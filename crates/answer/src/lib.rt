@@ -1,4 +1,4 @@
-// What an event is answered.
+// What an event is answered, the number of each answer and of each note, and the first of 25, 11 and 24 that applies.
 ghost use mathlib.Core.Path.{_≡_};
 ghost use Rattle.answer.specs.Answer.{takenOf, firstBar, numberOf};
 ghost use Rattle.user_element.specs.Element.{noteNumberOf};

@@ -11,8 +11,8 @@ use Prim.Native.Nat.{ℕ}
 use Rattle.flow_meter.specs.declared.call_meters.Meters.{Meters}
 use Rattle.flow_meter.specs.CallMeters.{grantsOf}
 
--- How a service stands after its answer. Where one failed the call is cleared and this is not asked: Failed is here only to be total, and so it is
--- in toldOf and inForceAfterOf.
+-- How a service stands after its answer. Where one failed the call is cleared and this is not asked: Failed is here
+-- only to be total, and so it is in toldOf and inForceAfterOf.
 abbrev pub settledOf : Standing → Fate → Standing
 settledOf s Fate.Kept = s
 settledOf s Fate.Accepted = Standing.InForce

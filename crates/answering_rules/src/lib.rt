@@ -1,4 +1,4 @@
-// ALERTING and CONNECT: what the answers that are due make of each service, how each then stands, and what is said of it.
+// ALERTING and CONNECT: what the answers that are due make of each service. `effects` has what that makes of the call.
 ghost use mathlib.Core.Path.{_≡_};
 ghost use Rattle.answering_rules.specs.Fates.{decidedOf, alertingFatesOf, connectFatesOf};
 use cause::NOT_ANSWERED;
@@ -60,7 +60,8 @@ pub fn alerting_fates(s: Standings, a: Answers) -> Fates
     }
 }
 
-// The answer to service 3 is due at CONNECT; without ALERTING the one to service 1 too, and service 2 counts as unanswered.
+// The answer to service 3 is due at CONNECT; without ALERTING the one to service 1 too, and service 2 counts as
+// unanswered.
 pub fn connect_fates(alerted: bool, s: Standings, a: Answers) -> Fates
     ensures { λ r. ⌜ r ≡ connectFatesOf alerted s a ⌝ }
 {

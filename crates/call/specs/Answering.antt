@@ -45,8 +45,8 @@ goesOnOf c kind next f seen =
       called = Sent.Absent;
     }
 
--- "Required and not accepted: DISCONNECT to the caller with rejectedByUser for each due service not accepted, and to the called user with cause 31;
--- Clearing." The message is not carried on, and so its element is not.
+-- "Required and not accepted: DISCONNECT to the caller with rejectedByUser for each due service not accepted, and to
+-- the called user with cause 31; Clearing." The message is not carried on, and so its element is not.
 unfoldable pub clearsOf : Call → ℕ → Fates → Seen → Reply
 clearsOf c cause f seen =
     record {

@@ -42,7 +42,8 @@ unfoldable pub carriedOf : Call → Side → Bool → Passage → Reply
 carriedOf c side more p =
     replyOf side (metersOf c (spentOf (c .meters) side p)) (passageAnswerOf p) Note.Clear (toSenderOf p) (toReceiverOf p more)
 
--- "17 USER INFORMATION, element absent, under 3 octets or over the limit", "which note 1 also brings". It has the element's note.
+-- "17 USER INFORMATION, element absent, under 3 octets or over the limit", "which note 1 also brings". It has the
+-- element's note.
 unfoldable pub withElementOf : Call → Seen → Reply → Reply
 withElementOf c seen r = cond (wholeOf seen) r (refusedOf c Answer.BadElement (notedOf seen true))
 

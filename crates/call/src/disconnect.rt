@@ -1,4 +1,4 @@
-// DISCONNECT and RELEASE COMPLETE.
+// DISCONNECT and RELEASE COMPLETE: what goes on to the other side, and the record in Clearing or Ended.
 ghost use mathlib.Core.Path.{_≡_};
 ghost use Rattle.call.specs.Disconnect.{passedOnOf, disconnectOf, releaseCompleteOf};
 use crate::Call;

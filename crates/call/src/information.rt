@@ -1,4 +1,4 @@
-// USER INFORMATION.
+// USER INFORMATION: its element looked at, what it meets in its side's meter, and what that makes of the call.
 ghost use mathlib.Core.Path.{_≡_};
 ghost use Rattle.call.specs.Information.{metersOf, informationPassageOf, carriedOf, withElementOf, informationOf};
 use crate::Call;

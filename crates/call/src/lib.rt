@@ -1,4 +1,4 @@
-// One call: its record, the events that it takes, and the replies.
+// One call: its record, a method for each event, the step over any event, and the replies; numbers 11 to 18, 24, 25.
 use facility_rules::Asking;
 use flow_meter::call_meters::Meters;
 use phases::Phase;

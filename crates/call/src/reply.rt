@@ -1,4 +1,4 @@
-// Replies, and the tests that come first.
+// The reply to an event, a refusal, and the numbers that bar an event from being heard: 25, 11 and 24.
 ghost use mathlib.Core.Path.{_≡_};
 ghost use Rattle.call.specs.Reply.{barOf, refusedOf, heardOf, pickOf, replyOf};
 use crate::Call;

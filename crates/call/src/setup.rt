@@ -1,4 +1,4 @@
-// SETUP.
+// SETUP: the whole record filled, and the first two messages.
 ghost use mathlib.Core.Path.{_≡_};
 ghost use Rattle.call.specs.Setup.{proceedsOf, setupOf};
 use crate::Call;

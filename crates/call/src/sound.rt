@@ -1,4 +1,4 @@
-// A fresh record, whether a record is live, and whether a live record is sound.
+// A fresh record, a record in its next phase, whether a record is live, and whether a live record is sound.
 ghost use mathlib.Core.Path.{_≡_};
 ghost use Rattle.call.specs.Sound.{inPhaseOf, rangesFit, freshCall, soundOf};
 ghost use Rattle.phases.specs.Phase.{liveOf};

@@ -1,4 +1,4 @@
-// The tick.
+// The tick: both meters refilled where service 3 runs, and ready to each sender whose mark was set.
 ghost use mathlib.Core.Path.{_≡_};
 ghost use Rattle.call.specs.Tick.{passesTickOf, tickOf};
 use crate::Call;

@@ -1,4 +1,5 @@
--- Runs that meet the premises of the promises on handling: elements that go out, services in force, and required ones that hold or fail.
+-- Runs that meet the premises of the promises on handling: elements that go out, services in force, and required ones
+-- that hold or fail.
 use mathlib.Core.List.{List, [], _∷_, _++_}
 use mathlib.Core.Bool.{true, false}
 use mathlib.Core.Path.{_≡_}
@@ -87,7 +88,8 @@ agreed =
     unserved
     ++ (bare (Event.Facility Side.Calling What.Preferred) ∷ bare (Event.Facility Side.Called What.Accept) ∷ [])
 
--- HELD. A call is Active with every service in force that was required; a required service fails, and the call is Clearing.
+-- HELD. A call is Active with every service in force that was required; a required service fails, and the call is
+-- Clearing.
 pub record Held : Type 0 where
   pub asked : (k : Service) → Happens (Takes (Requires k)) connected
   pub active : runOf freshCall connected .phase ≡ Phase.Active

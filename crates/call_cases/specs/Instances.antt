@@ -1,4 +1,5 @@
--- Every number and every note is met, so that no condition of the tables is void and no promise holds for want of cases.
+-- Every number and every note is met, so that no condition of the tables is void and no promise holds for want of
+-- cases.
 use Prim.Native.Nat.{ℕ}
 use mathlib.Core.List.{List, [], _∷_, _++_}
 use mathlib.Core.Bool.{true, false}
@@ -137,8 +138,8 @@ broken =
 abbrev pub Broken : Type 0
 Broken = numberOf (stepOf broken Event.Tick [] .answer) ≡ 25
 
--- the paper's example: "SETUP of reference 5, rights 7 0 0 131 2 1, service 3 preferred; ALERTING; CONNECT accepting 3; four calling USER INFORMATION of
--- 4 octets; tick; another; calling DISCONNECT cause 16; called RELEASE COMPLETE"
+-- the paper's example: "SETUP of reference 5, rights 7 0 0 131 2 1, service 3 preferred; ALERTING; CONNECT accepting 3;
+-- four calling USER INFORMATION of 4 octets; tick; another; calling DISCONNECT cause 16; called RELEASE COMPLETE"
 abbrev pub example : List Offered
 example =
     setup 7 Request.Unasked Request.Unasked Request.Preferred 131 []

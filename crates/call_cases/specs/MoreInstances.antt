@@ -72,8 +72,9 @@ talk =
     ∷ record { event = Event.Disconnect Side.Called 16 silent; element = elementOf 11 }
     ∷ []
 
--- Service 2 added, with late delivery on both lines. In the second run the count of service 2 pays for the message sent while it rings and for the
--- first one after CONNECT, and credit for the two after that; in the first run credit pays for the first two after CONNECT.
+-- Service 2 added, with late delivery on both lines. In the second run the count of service 2 pays for the message sent
+-- while it rings and for the first one after CONNECT, and credit for the two after that; in the first run credit pays
+-- for the first two after CONNECT.
 abbrev pub twoAdded : Pair
 twoAdded =
     record {
@@ -204,7 +205,8 @@ withouts =
       events = served ++ (informs Side.Calling 4 ∷ informs Side.Calling 4 ∷ bare Event.Tick ∷ informs Side.Calling 4 ∷ informs Side.Calling 4 ∷ []);
       lost = elementOf 4;
     }
-    -- a smaller limit drops the element; under a larger one longer elements spend the credit that the first line still has
+    -- a smaller limit drops the element; under a larger one longer elements spend the credit that the first line still
+    -- has
     ∷ record {
       premise = limit;
       first = full;
@@ -219,7 +221,8 @@ withouts =
       events = served ++ (informs Side.Calling 11 ∷ informs Side.Calling 11 ∷ informs Side.Calling 4 ∷ []);
       lost = elementOf 4;
     }
-    -- leave taken away: the called side's request is refused; leave added: it brings service 3 into force early, and its credit is spent early
+    -- leave taken away: the called side's request is refused; leave added: it brings service 3 into force early, and
+    -- its credit is spent early
     ∷ record {
       premise = leave;
       first = full;
@@ -245,11 +248,13 @@ OutOfRangeWrong =
     (lastIn full (starts Request.Unasked Request.Unasked (elementOf 4) ∷ []) ≡ elementOf 4)
     × (lastIn outOfRange (starts Request.Unasked Request.Unasked (elementOf 4) ∷ []) ≡ [])
 
--- NONE LEFT OUT. No premise can be left out but the range of the first's rights: out of range, the first SETUP is refused and nothing is handed over.
+-- NONE LEFT OUT. No premise can be left out but the range of the first's rights: out of range, the first SETUP is
+-- refused and nothing is handed over.
 abbrev pub NoneLeftOut : Type 0
 NoneLeftOut = EachWrong withouts × OutOfRangeWrong
 
--- the account of the calling side's messages: two under the count and two under credit; and two under credit, then a tick
+-- the account of the calling side's messages: two under the count and two under credit; and two under credit, then a
+-- tick
 abbrev pub purseAfter : Rights → List Offered → Purse
 purseAfter r os = accountOf unopened (withRights r os) .calling
 

@@ -1,4 +1,5 @@
--- Cores that are no core of ours: "always refuses, has one fixed reply, sends nothing, or handles only SETUP and nods later".
+-- Cores that are no core of ours: "always refuses, has one fixed reply, sends nothing, or handles only SETUP and nods
+-- later".
 use Prim.Native.Nat.{ℕ}
 use mathlib.Core.List.{List}
 use mathlib.Core.Path.{_≡_}

@@ -39,7 +39,8 @@ pub and-left : (a b : Bool) → (a && b) ≡ true → a ≡ true
 and-left true b h = refl
 and-left false b h = h
 
--- one service. Where the first line has it, it stands alike; where not, the first call never has it in force and the second does not need it.
+-- one service. Where the first line has it, it stands alike; where not, the first call never has it in force and the
+-- second does not need it.
 abbrev pub idleOf : Standing → Bool
 idleOf Standing.Unasked = true
 idleOf Standing.Preferred = false

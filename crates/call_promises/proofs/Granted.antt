@@ -73,7 +73,8 @@ Known c k = Stands (standingFor (c .standings) k) ⊎ AskedNow (c .asking) k
 in-force-stands : (s : Standing) → InForce s → Stands s
 in-force-stands s e = rw e tt
 
--- what an event makes of a service, d being the record after it and n its answer: nothing that was not asked for, nor in force that was not accepted
+-- what an event makes of a service, d being the record after it and n its answer: nothing that was not asked for, nor
+-- in force that was not accepted
 record Traces (c : Call) (k : Service) (e : Event) (l : List ℕ) (d : Call) (n : ℕ) : Type 0 where
   asked : Known d k → (Known c k × (d .rights ≡ c .rights)) ⊎ ((n ≡ 0) × AsksFor k e l × Has (d .rights) k)
   came : InForce (standingFor (d .standings) k) → InForce (standingFor (c .standings) k) ⊎ ((n ≡ 0) × Accepts k e l)

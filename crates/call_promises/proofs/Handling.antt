@@ -71,7 +71,8 @@ only-plain b s p = by-cond Plain b (λ _. p) (λ _. tt)
 abbrev Offers : Event → List ℕ → Type 0
 Offers e l = (Bare e → ⊥) × (length l ≡ 0 → ⊥)
 
--- A message to one side either has no element, or has one that may go out in it. N: the event is taken, and there is no note on its element.
+-- A message to one side either has no element, or has one that may go out in it. N: the event is taken, and there is no
+-- note on its element.
 data Way (e : Event) (to : Side) (l : List ℕ) (limit : ℕ) (P N : Type 0) : Sent → Type 0 where
   plain : {s : Sent} → Plain s → (Offers e l → N → ⊥) → Way e to l limit P N s
   goes : {m : Message} → m .element ≡ true → Goes e to (m .kind) (m .more) → WellFormed l → length l ≤ limit → P → N → Way e to l limit P N (Sent.Present m)

@@ -1,5 +1,6 @@
--- CREDIT. No credit is invented or lost: each credit and each service 2 count is a function of the events alone, with their elements: the account,
--- which says by itself which events count and what each does. No call record, no answer and no message stands in it.
+-- CREDIT. No credit is invented or lost: each credit and each service 2 count is a function of the events alone, with
+-- their elements: the account, which says by itself which events count and what each does. No call record, no answer
+-- and no message stands in it.
 use Prim.Native.Nat.{ℕ, _+_, _-_}
 use mathlib.Core.List.{List, [], _∷_}
 use mathlib.Core.Bool.{Bool, true, false, cond, _&&_, _||_, not}
@@ -34,7 +35,8 @@ pub record Purse : Type 0 where
   pub credit : ℕ
   pub count : ℕ
 
--- what the events so far say: rights, the requests of SETUP that remain, phase, services 2 and 3 in force, whose own FACILITY request is open
+-- what the events so far say: rights, the requests of SETUP that remain, phase, services 2 and 3 in force, whose own
+-- FACILITY request is open
 pub record Account : Type 0 where
   pub rights : Rights
   pub asked : Requests
@@ -78,8 +80,8 @@ accepts Given.Silent = false
 accepts Given.Accepted = true
 accepts Given.Rejected = false
 
--- SETUP. "If a required service is not in the rights: .. Ended. Otherwise SETUP goes on with the remaining requests .. Requested." An implicit request
--- for service 1 is preferred and due no answer: it counts as none here.
+-- SETUP. "If a required service is not in the rights: .. Ended. Otherwise SETUP goes on with the remaining requests ..
+-- Requested." An implicit request for service 1 is preferred and due no answer: it counts as none here.
 abbrev pub lacks : Rights → Requests → Bool
 lacks r q = (fails (q .one) (hasOf r Service.One) || fails (q .two) (hasOf r Service.Two)) || fails (q .three) (hasOf r Service.Three)
 
@@ -124,8 +126,9 @@ connects a g =
     (cond (comes (a .asked .three) (accepts (g .three))) (grants (moves a Phase.Active (a .two) (a .three)))
     (moves a Phase.Active (a .two) (a .three)))
 
--- USER INFORMATION. 17: "element absent, under 3 octets or over the limit", or not well formed. "Alerting: service 2, two messages each way .. Active:
--- from the calling side, with late delivery and service 2 in force, its remaining count first; then service 3." "a message spends one"
+-- USER INFORMATION. 17: "element absent, under 3 octets or over the limit", or not well formed. "Alerting: service 2,
+-- two messages each way .. Active: from the calling side, with late delivery and service 2 in force, its remaining
+-- count first; then service 3." "a message spends one"
 abbrev pub late : Account → Side → Bool
 late a Side.Calling = a .rights .late
 late a Side.Called = false
@@ -145,9 +148,9 @@ abbrev pub informs : Account → Side → Account
 informs a Side.Calling = holds a (pays (byCount a Side.Calling) (byCredit a Side.Calling) (a .calling)) (a .called)
 informs a Side.Called = holds a (a .calling) (pays (byCount a Side.Called) (byCredit a Side.Called) (a .called))
 
--- FACILITY. "Each side has its own open request. Accept puts the service in force and closes both; reject closes the one." Not so where 18, 16 or 15 is
--- due: "asked as required", "not in the rights, or by the called side without leave", "service 3 in force, asker's own request open, or an answer with
--- no open request of the other side".
+-- FACILITY. "Each side has its own open request. Accept puts the service in force and closes both; reject closes the
+-- one." Not so where 18, 16 or 15 is due: "asked as required", "not in the rights, or by the called side without
+-- leave", "service 3 in force, asker's own request open, or an answer with no open request of the other side".
 abbrev pub may : Rights → Side → Bool
 may r Side.Calling = hasOf r Service.Three
 may r Side.Called = hasOf r Service.Three && r .leave
@@ -165,8 +168,9 @@ abbrev pub refills : Rights → Purse → Purse
 refills r p =
     record { credit = cond (leb (p .credit + r .refill) (r .burst)) (p .credit + r .refill) (r .burst); count = p .count }
 
--- One event, in the phases that stand in brackets behind its name. 24: "SETUP, reference or rights out of range; DISCONNECT, cause over 127". "A tick ..
--- without service 3 in Active it does nothing." What does not count leaves the account as it was.
+-- One event, in the phases that stand in brackets behind its name. 24: "SETUP, reference or rights out of range;
+-- DISCONNECT, cause over 127". "A tick .. without service 3 in Active it does nothing." What does not count leaves the
+-- account as it was.
 abbrev pub books : Account → Event → List ℕ → Account
 books a (Event.Setup reference r q) l =
     cond (freshOf (a .phase) && (referenceFitsOf reference && rightsFitOf r))
@@ -195,12 +199,13 @@ pub record Balanced (c : Call) (a : Account) (side : Side) : Type 0 where
   pub credit : meterFrom c side .credit ≡ purseOf a side .credit
   pub count : meterFrom c side .count ≡ purseOf a side .count
 
--- CREDIT. After every list of events from a fresh record each direction's credit and count are those of the account. The events of a run up to any one of
--- them are such a list: so this holds after every event of every run.
+-- CREDIT. After every list of events from a fresh record each direction's credit and count are those of the account.
+-- The events of a run up to any one of them are such a list: so this holds after every event of every run.
 abbrev pub Credit : Type 0
 Credit = (os : List Offered) (side : Side) → Balanced (runOf freshCall os) (accountOf unopened os) side
 
--- COVERED. And nothing goes over unpaid: a message that is answered 0 is paid by the count, or by a credit that is there.
+-- COVERED. And nothing goes over unpaid: a message that is answered 0 is paid by the count, or by a credit that is
+-- there.
 abbrev pub Covered : Type 0
 Covered =
     (os : List Offered) (side : Side) (more : Bool) (l : List ℕ) →

@@ -1,4 +1,5 @@
--- What users are handed: "user information goes out unaltered and only under a service in force in that phase or, in SETUP, still asked for".
+-- What users are handed: "user information goes out unaltered and only under a service in force in that phase or, in
+-- SETUP, still asked for".
 use Prim.Native.Nat.{ℕ, _<_, _≤_}
 use mathlib.Core.List.{List, []}
 use mathlib.Core.Logic.{_⊎_}
@@ -34,7 +35,8 @@ handedIn (Sent.Present m) l = cond (m .element) l []
 abbrev pub handedTo : Call → Event → List ℕ → Side → List ℕ
 handedTo c e l side = handedIn (sentTo (stepOf c e l) side) l
 
--- An event's element goes out to one user only and in the event's own message. More data belongs to USER INFORMATION only.
+-- An event's element goes out to one user only and in the event's own message. More data belongs to USER INFORMATION
+-- only.
 pub data Goes : Event → Side → Kind → Bool → Type 0 where
   setup : {reference : ℕ} {rights : Rights} {requests : Requests} → Goes (Event.Setup reference rights requests) Side.Called Kind.Setup false
   alerting : {answers : Answers} → Goes (Event.Alerting answers) Side.Calling Kind.Alerting false
@@ -63,13 +65,13 @@ pub record Out (c : Call) (e : Event) (l : List ℕ) : Type 0 where
   pub unnoted : (Bare e → ⊥) → (length l ≡ 0 → ⊥) → Unnoted (stepOf c e l) → (to : Side) × Whole c e l to
   pub dropped : (Unnoted (stepOf c e l) → ⊥) → (side : Side) → handedTo c e l side ≡ []
 
--- GOES OUT. "A noted element is dropped and the rest acted on": an event's element goes out, whole and to the user that `Goes` names, exactly if the
--- event is taken and there is no note on the element. Otherwise nobody is handed anything.
+-- GOES OUT. "A noted element is dropped and the rest acted on": an event's element goes out, whole and to the user that
+-- `Goes` names, exactly if the event is taken and there is no note on the element. Otherwise nobody is handed anything.
 abbrev pub GoesOut : Type 0
 GoesOut = (c : Call) (e : Event) (l : List ℕ) → Out c e l
 
--- SETUP asks for a service by a request, or for service 1 by its element: "An element without note 1 or 2 and with no explicit request for service
--- 1 is an implicit preferred request."
+-- SETUP asks for a service by a request, or for service 1 by its element: "An element without note 1 or 2 and with no
+-- explicit request for service 1 is an implicit preferred request."
 abbrev pub Explicit : Request → Type 0
 Explicit q = (q ≡ Request.Preferred) ⊎ (q ≡ Request.Required)
 
@@ -92,8 +94,8 @@ pub data Under (c : Call) (l : List ℕ) (d : Call) : Event → Type 0 where
   cleared : {side : Side} {cause : ℕ} {answers : Answers} →
       d .phase ≡ Phase.Clearing → InForce (d .standings .one) → Under c l d (Event.Disconnect side cause answers)
 
--- UNDER A SERVICE. A user is handed octets only where a service is in force for them in that phase or, in SETUP, service 1 is asked for and the
--- rights have it.
+-- UNDER A SERVICE. A user is handed octets only where a service is in force for them in that phase or, in SETUP,
+-- service 1 is asked for and the rights have it.
 abbrev pub UnderAService : Type 0
 UnderAService =
     (c : Call) (e : Event) (l : List ℕ) (side : Side) →

@@ -32,8 +32,8 @@ abbrev pub withRights : Rights → List Offered → List Offered
 withRights r [] = []
 withRights r (o ∷ os) = record { event = eventWith r (o .event); element = o .element } ∷ withRights r os
 
--- "both lines' rights in range, the second's with every service of the first, late delivery if the first had it, burst and refill no smaller,
--- length limit and the called side's leave the same"
+-- "both lines' rights in range, the second's with every service of the first, late delivery if the first had it, burst
+-- and refill no smaller, length limit and the called side's leave the same"
 pub record NoLess (r r' : Rights) : Type 0 where
   pub first : RightsInRange r
   pub second : RightsInRange r'
@@ -67,7 +67,8 @@ pub data NoFewer : List Handed → List Handed → Type 0 where
   end : NoFewer [] []
   also : {g h : Handed} {gs hs : List Handed} → Kept (g .calling) (h .calling) → Kept (g .called) (h .called) → NoFewer gs hs → NoFewer (g ∷ gs) (h ∷ hs)
 
--- "and while the first call is up the second is in the same phase": said of every run, it is said of each part of a run from its start
+-- "and while the first call is up the second is in the same phase": said of every run, it is said of each part of a run
+-- from its start
 abbrev pub InStep : Call → Call → Type 0
 InStep c d = Up (c .phase) → d .phase ≡ c .phase
 

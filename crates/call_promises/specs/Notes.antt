@@ -70,8 +70,8 @@ Fails s g = (s ≡ Standing.Required) × (g ≡ Given.Accepted → ⊥)
 abbrev pub Comes : Type 0 → Standing → Given → Type 0
 Comes due s g = InForce s ⊎ (due × Open s × (g ≡ Given.Accepted))
 
--- ALERTING: "Answers to 1 and 2 are due." CONNECT: "The answer to 3 is due, and to 1 if no ALERTING came; service 2 without ALERTING counts as
--- unanswered." ALERTING came exactly if the phase is no longer Requested.
+-- ALERTING: "Answers to 1 and 2 are due." CONNECT: "The answer to 3 is due, and to 1 if no ALERTING came; service 2
+-- without ALERTING counts as unanswered." ALERTING came exactly if the phase is no longer Requested.
 abbrev pub AlertingFails : Standings → Answers → Type 0
 AlertingFails s a = Fails (s .one) (a .one) ⊎ Fails (s .two) (a .two)
 
@@ -80,9 +80,10 @@ ConnectFails p s a =
     ((p ≡ Phase.Requested) × (Fails (s .one) (a .one) ⊎ (s .two ≡ Standing.Required)))
     ⊎ Fails (s .three) (a .three)
 
--- An element that is well-formed and within the limit is not carried: "(not for USER INFORMATION) service 1 not in force, in SETUP not
--- remaining, or the message not carried on". In SETUP such an element asks for service 1 itself where nothing else does, so that service 1 remains
--- exactly if the rights have it. DISCONNECT: "From the called side, .. an acceptance of open service 1 counts first".
+-- An element that is well-formed and within the limit is not carried: "(not for USER INFORMATION) service 1 not in
+-- force, in SETUP not remaining, or the message not carried on". In SETUP such an element asks for service 1 itself
+-- where nothing else does, so that service 1 remains exactly if the rights have it. DISCONNECT: "From the called side,
+-- .. an acceptance of open service 1 counts first".
 abbrev pub NotCarried : Call → Event → Type 0
 NotCarried c (Event.Setup reference rights requests) = LacksRequired rights requests ⊎ (Has rights Service.One → ⊥)
 NotCarried c (Event.Alerting answers) =
@@ -98,8 +99,8 @@ NotCarried c Event.Tick = ⊥
 NotCarried c Event.CallProceeding = ⊥
 NotCarried c Event.CongestionControl = ⊥
 
--- "0 none, 1 under 3 octets or not beginning 126 and its length less 2, 2 over the limit, 3 ..; the first that applies. No octets at all is an
--- absent element."
+-- "0 none, 1 under 3 octets or not beginning 126 and its length less 2, 2 over the limit, 3 ..; the first that applies.
+-- No octets at all is an absent element."
 abbrev pub noteRows : Call → Event → List ℕ → Rows
 noteRows c e l =
     row (Refused c e l) 0

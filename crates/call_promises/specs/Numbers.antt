@@ -1,4 +1,5 @@
--- Numbers given back by one call. Each condition is written from the paper's table, without the functions that decide it.
+-- Numbers given back by one call. Each condition is written from the paper's table, without the functions that decide
+-- it.
 use Prim.Native.Nat.{ℕ, _-_, _/_, _%_, _<_, _≤_}
 use mathlib.Core.List.{List}
 use mathlib.Core.Logic.{_⊎_}
@@ -19,7 +20,7 @@ use Rattle.event.specs.declared.Event.{Event}
 use Rattle.call.specs.Step.{stepOf}
 use Rattle.call_promises.specs.Ranges.{Up, Live, ReferenceInRange, RightsInRange, Unsound}
 
--- 25 and the ranges: `ranges/specs/Ranges.antt`.
+-- 25 and the ranges: `Ranges.antt`.
 
 -- 12: "CALL PROCEEDING or CONGESTION CONTROL offered as an event"
 abbrev pub NotAnEvent : Event → Type 0
@@ -77,7 +78,8 @@ abbrev pub meterFrom : Call → Side → Meter
 meterFrom c Side.Calling = c .meters .calling
 meterFrom c Side.Called = c .meters .called
 
--- "Alerting: service 2 .. Active: from the calling side, with late delivery and service 2 in force, its remaining count first; then service 3."
+-- "Alerting: service 2 .. Active: from the calling side, with late delivery and service 2 in force, its remaining count
+-- first; then service 3."
 abbrev pub ServesTwo : Call → Side → Type 0
 ServesTwo c side =
     ((c .phase ≡ Phase.Alerting) × InForce (c .standings .two))
@@ -136,7 +138,8 @@ NotOpen c e =
     InForce (c .standings .three) ⊎ ((IsRequest what × Asks c side) ⊎ (IsAnswer what × (Asks c (other side) → ⊥))))
     e
 
--- "25 comes first of 11 to 25; .. then the call 12, 11, 24, then: for USER INFORMATION 17, 13, 14; for a request 18, 16, 15; for an answer 15."
+-- "25 comes first of 11 to 25; .. then the call 12, 11, 24, then: for USER INFORMATION 17, 13, 14; for a request 18,
+-- 16, 15; for an answer 15."
 abbrev pub answerRows : Call → Event → List ℕ → Rows
 answerRows c e l =
     row (Unsound c) 25
@@ -150,6 +153,7 @@ answerRows c e l =
     (row (NotGranted c e) 16
     (row (NotOpen c e) 15 end)))))))))
 
--- ANSWERS. For every record, event and element: a number is given exactly when the table says it, and 0 exactly when no row applies.
+-- ANSWERS. For every record, event and element: a number is given exactly when the table says it, and 0 exactly when no
+-- row applies.
 abbrev pub Answers : Type 0
 Answers = (c : Call) (e : Event) (l : List ℕ) → Exactly (answerRows c e l) (numberOf (stepOf c e l .answer))

@@ -7,14 +7,16 @@ use Rattle.rights.specs.declared.Rights.{Rights}
 use Rattle.phases.specs.declared.Phase.{Phase}
 use Rattle.call.specs.declared.Call.{Call}
 
--- "Fresh, Requested, Alerting, Active, Clearing, Ended. "Up" means Requested, Alerting or Active." Live: all but Fresh and Ended.
+-- "Fresh, Requested, Alerting, Active, Clearing, Ended. "Up" means Requested, Alerting or Active." Live: all but Fresh
+-- and Ended.
 abbrev pub Up : Phase → Type 0
 Up p = (p ≡ Phase.Requested) ⊎ ((p ≡ Phase.Alerting) ⊎ (p ≡ Phase.Active))
 
 abbrev pub Live : Phase → Type 0
 Live p = Up p ⊎ (p ≡ Phase.Clearing)
 
--- "limit on the element 3 to 131, burst X 1 to 255, refill Y 1 to 255. References 1 to 32767." Services are an octet of three bits.
+-- "limit on the element 3 to 131, burst X 1 to 255, refill Y 1 to 255. References 1 to 32767." Services are an octet of
+-- three bits.
 abbrev pub Within : ℕ → ℕ → ℕ → Type 0
 Within least n greatest = (least ≤ n) × (n ≤ greatest)
 

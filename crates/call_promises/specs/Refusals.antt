@@ -79,7 +79,8 @@ rejectedByNetwork =
       element = false;
     })
 
--- "The first message dropped for credit under service 3 sets that direction's mark and sends not ready, cause 43, to its sender."
+-- "The first message dropped for credit under service 3 sets that direction's mark and sends not ready, cause 43, to
+-- its sender."
 pub record Marks (c : Call) (side : Side) (r : Reply) : Type 0 where
   pub serves : ServesThree c
   pub spent : meterFrom c side .credit ≡ 0

@@ -1,4 +1,5 @@
--- Services over a run: "only under a service in force", which was granted; "a required service that fails never leaves the call connected".
+-- Services over a run: "only under a service in force", which was granted; "a required service that fails never leaves
+-- the call connected".
 use Prim.Native.Nat.{ℕ}
 use mathlib.Core.List.{List, [], _∷_, _++_}
 use mathlib.Core.Path.{_≡_}
@@ -58,13 +59,15 @@ Takes P before o = Taken (runOf freshCall before) (o .event) (o .element) × P (
 pub data Requires (k : Service) : Event → List ℕ → Type 0 where
   asked : {reference : ℕ} {rights : Rights} {q : Requests} {l : List ℕ} → requestFor q k ≡ Request.Required → Requires k (Event.Setup reference rights q) l
 
--- REQUIRED. After every run from a fresh record: if the call is Active, every service is in force that its SETUP asked for as required.
+-- REQUIRED. After every run from a fresh record: if the call is Active, every service is in force that its SETUP asked
+-- for as required.
 abbrev pub Required : Type 0
 Required =
     (os : List Offered) (k : Service) →
     Happens (Takes (Requires k)) os → runOf freshCall os .phase ≡ Phase.Active → InForce (standingFor (runOf freshCall os .standings) k)
 
--- An event at which a required service fails: SETUP that asks for one the rights lack, ALERTING or CONNECT that does not accept one that is due.
+-- An event at which a required service fails: SETUP that asks for one the rights lack, ALERTING or CONNECT that does
+-- not accept one that is due.
 pub data Failing (c : Call) : Event → Phase → Type 0 where
   setup : {reference : ℕ} {rights : Rights} {q : Requests} → LacksRequired rights q → Failing c (Event.Setup reference rights q) Phase.Ended
   alerting : {a : Answers} → AlertingFails (c .standings) a → Failing c (Event.Alerting a) Phase.Clearing
@@ -81,8 +84,9 @@ pub data AsksFor : Service → Event → List ℕ → Type 0 where
   element : {reference : ℕ} {rights : Rights} {q : Requests} {l : List ℕ} → Has rights Service.One → Implied rights q l → AsksFor Service.One (Event.Setup reference rights q) l
   facility : {side : Side} {l : List ℕ} → AsksFor Service.Three (Event.Facility side What.Preferred) l
 
--- an event accepts a service that is due: "ALERTING .. Answers to 1 and 2 are due. CONNECT .. The answer to 3 is due, and to 1 if no ALERTING came";
--- DISCONNECT from the called side for service 1; FACILITY for service 3; an element in SETUP puts service 1 in force by itself
+-- an event accepts a service that is due: "ALERTING .. Answers to 1 and 2 are due. CONNECT .. The answer to 3 is due,
+-- and to 1 if no ALERTING came"; DISCONNECT from the called side for service 1; FACILITY for service 3; an element in
+-- SETUP puts service 1 in force by itself
 pub data Accepts : Service → Event → List ℕ → Type 0 where
   alerting : {k : Service} {a : Answers} {l : List ℕ} → (k ≡ Service.Three → ⊥) → answerFor a k ≡ Given.Accepted → Accepts k (Event.Alerting a) l
   connect : {k : Service} {a : Answers} {l : List ℕ} → (k ≡ Service.Two → ⊥) → answerFor a k ≡ Given.Accepted → Accepts k (Event.Connect a) l

@@ -19,7 +19,8 @@ abbrev pub runOf : Call → List Offered → Call
 runOf c [] = c
 runOf c (o ∷ os) = runOf (stepOf c (o .event) (o .element) .call) os
 
--- SOUND. After every run from a fresh record, a live record has every field in range, each credit at most X and each count at most 2.
+-- SOUND. After every run from a fresh record, a live record has every field in range, each credit at most X and each
+-- count at most 2.
 abbrev pub Sound : Type 0
 Sound = (os : List Offered) → Live (runOf freshCall os .phase) → InRangeCall (runOf freshCall os)
 

@@ -19,7 +19,8 @@ pub record Frame : Type 0 where
 unfoldable pub frameSizeOf : List ℕ → ℕ
 frameSizeOf c = getD c 0 0 * 256 + getD c 1 0
 
--- the whole messages at the front of a piece of capture that starts at an offset: the first of them, and at most k - 1 more
+-- the whole messages at the front of a piece of capture that starts at an offset: the first of them, and at most k - 1
+-- more
 unfoldable pub framesIn : ℕ → ℕ → List ℕ → List Frame
 framesIn zero offset c = []
 framesIn (suc k) offset c =

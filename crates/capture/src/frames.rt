@@ -1,4 +1,4 @@
-// A capture: messages end to end, each after its length in two octets.
+// A piece of capture: messages end to end, each after its length in two octets, and the lines of those that are whole.
 ghost use Prim.Native.Nat.{_+_};
 ghost use Rattle.capture.specs.Frames.{Digested};
 use crate::margins::later;
@@ -12,8 +12,8 @@ pub struct Done {
     pub wrote: usize,
 }
 
-// Writes the lines of the whole messages at the front of a piece of capture, as many as fit the buffer. The piece starts at
-// an offset of the capture. What was not used is the front of the next piece.
+// Writes the lines of the whole messages at the front of a piece of capture, as many as fit the buffer. The piece
+// starts at an offset of the capture. What was not used is the front of the next piece.
 pub fn digest(piece: &[u8], offset: u64, out: &mut [u8]) -> Done
     ensures { λ r. ⌜ Digested (now (piece .entry)) offset (now (out .entry)) (now (out .exit)) r ⌝ }
 {

@@ -6,8 +6,8 @@ use lib.ListN.{length, getD}
 use lib.Dec.{ltb, leb}
 use Rattle.cause.specs.declared.Cause.{Cause}
 
--- "the low seven bits of the octet after the location octet and its extension, absent without that octet": a location octet
--- below 80 hexadecimal has an extension, one of 80 or more has none
+-- "the low seven bits of the octet after the location octet and its extension, absent without that octet": a location
+-- octet below 80 hexadecimal has an extension, one of 80 or more has none
 unfoldable pub causeOf : List ℕ → Cause
 causeOf b =
     cond (ltb (length b) 2) Cause.Absent

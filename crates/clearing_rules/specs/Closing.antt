@@ -35,8 +35,8 @@ abbrev pub heardAnswersOf : Side → Answers → Answers
 heardAnswersOf Side.Calling a = silentAnswers
 heardAnswersOf Side.Called a = a
 
--- "rejections of the caller's open requests go on too, and an acceptance of open service 1 counts first and goes on". asks: the caller's own
--- FACILITY request is open.
+-- "rejections of the caller's open requests go on too, and an acceptance of open service 1 counts first and goes on".
+-- asks: the caller's own FACILITY request is open.
 unfoldable pub closingFacilitiesOf : Standings → Bool → Answers → Facilities
 closingFacilitiesOf s asks a =
     record {

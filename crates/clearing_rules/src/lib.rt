@@ -1,4 +1,4 @@
-// What the answers in the called side's DISCONNECT still make of the services.
+// DISCONNECT: what the answers in the called side's message still make of the services, and what is said of each.
 ghost use mathlib.Core.Path.{_≡_};
 ghost use Rattle.clearing_rules.specs.Closing.{rejectionOf, closingSaidOf, closingStandingOf, heardAnswersOf, closingFacilitiesOf};
 use sent::side::Side;

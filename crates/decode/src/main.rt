@@ -1,5 +1,5 @@
-// Prints a capture of messages, a line a message: standard input to standard output, in a fixed amount of memory. What a line
-// says is computed in `capture`; here octets are only read and written.
+// Prints a capture of messages, a line a message: standard input to standard output, in a fixed amount of memory. What
+// a line says is computed in `capture`; here octets are only read and written.
 use capture::frames::digest;
 use capture::margins::later;
 use capture::margins::write_first;
@@ -9,8 +9,8 @@ use streams::fetch;
 use streams::held;
 use streams::send;
 
-// What of the capture is in the buffer and not printed yet: the octets from one place to another, of which the first has an
-// offset in the capture.
+// What of the capture is in the buffer and not printed yet: the octets from one place to another, of which the first
+// has an offset in the capture.
 struct Held {
     from: usize,
     to: usize,

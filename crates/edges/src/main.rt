@@ -1,5 +1,5 @@
-// Runs cases of calls that are easy to get wrong, and a whole call with every service, and prints a line for each event:
-// its name, the answer, the note, and the type and cause of the message to the calling and to the called user.
+// Runs cases of calls that are easy to get wrong, and a whole call with every service, and prints a line for each
+// event: its name, the answer, the note, and the type and cause of the message to the calling and to the called user.
 use answer::note_number;
 use answer::number;
 use call::Call;

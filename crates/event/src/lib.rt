@@ -1,4 +1,4 @@
-// The events of a call.
+// The events of a call, each without its element.
 use facility_rules::What;
 use rights::Rights;
 use sent::side::Side;

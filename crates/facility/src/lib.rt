@@ -1,5 +1,5 @@
-// What a Facility element says: one component, and whether its invoke number is in range. `forms` reads its body, `filling`
-// writes the element.
+// What a Facility element says: one component, and whether its invoke number is in range. `forms` reads its body,
+// `filling` writes the element.
 ghost use mathlib.Core.Path.{_≡_};
 ghost use Rattle.facility.specs.Facility.{componentFits};
 

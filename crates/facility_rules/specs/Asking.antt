@@ -45,17 +45,17 @@ facilityAnswerOf What.Accept request answer = answer
 facilityAnswerOf What.Reject request answer = answer
 facilityAnswerOf What.Required request answer = Answer.AskedRequired
 
--- "for a request 18, 16, 15; for an answer 15". Number 15: "service 3 in force, asker's own request open, or an answer with no open request of
--- the other side".
+-- "for a request 18, 16, 15; for an answer 15". Number 15: "service 3 in force, asker's own request open, or an answer
+-- with no open request of the other side".
 abbrev pub verdictOf : Rights → Asking → Bool → Side → What → Answer
 verdictOf r a force side what =
     facilityAnswerOf what
     (toRequestOf (mayAskOf r side) (force || asksOf a side))
     (toAnswerOf (force || not (asksOf a (peerOf side))))
 
--- What is taken does to the two requests, to service 3 and to the meters. A required request is refused by 18 and never taken: its clauses here
--- and in facilitySaidOf are there only to be total.
--- "Accept puts the service in force and closes both; reject closes the one."
+-- What is taken does to the two requests, to service 3 and to the meters. A required request is refused by 18 and never
+-- taken: its clauses here and in facilitySaidOf are there only to be total. "Accept puts the service in force and
+-- closes both; reject closes the one."
 abbrev pub facilityAskingOf : Asking → Side → What → Asking
 facilityAskingOf a side What.Preferred = withAskOf a side true
 facilityAskingOf a side What.Accept = nobodyAsks

@@ -1,4 +1,5 @@
-// FACILITY: service 3 asked for while connected, and what the asker and the other user are told.
+// FACILITY: service 3 asked for, accepted or rejected while connected, and what it is answered. `messages` has what the
+// two users are told.
 ghost use mathlib.Core.Path.{_≡_};
 ghost use Rattle.facility_rules.specs.Asking.{nobodyAsks, asksOf, withAskOf, mayAskOf, toAnswerOf, verdictOf, facilityAskingOf, facilityThreeOf, facilityMetersOf};
 use answer::Answer;

@@ -19,7 +19,8 @@ spentBy (Passage.Marks n) = Spent.Marked
 spentBy Passage.Spent = Spent.Dropped
 spentBy Passage.Unserved = Spent.Unserved
 
--- "25 .. meter with a field out of range, credit over X or count over 2". X is held to its own range too, "burst X 1 to 255".
+-- "25 .. meter with a field out of range, credit over X or count over 2". X is held to its own range too, "burst X 1 to
+-- 255".
 unfoldable pub lentFitsOf : Meter → ℕ → Bool
 lentFitsOf m burst = within 1 burst greatestBurst && meterFitsOf m burst
 

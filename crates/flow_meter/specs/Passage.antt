@@ -22,7 +22,8 @@ unfoldable pub underThreeOf : Meter → Passage
 underThreeOf m =
     cond (ltb 0 (m .credit)) (Passage.Three (paidOf m)) (cond (m .mark) Passage.Spent (Passage.Marks (markedOf m)))
 
--- Where service 2 serves, "its remaining count first; then service 3". A spent count without service 3 is 14, no service at all 13.
+-- Where service 2 serves, "its remaining count first; then service 3". A spent count without service 3 is 14, no
+-- service at all 13.
 unfoldable pub passageOf : Meter → Bool → Bool → Passage
 passageOf m two three =
     cond (two && ltb (m .count) greatestCount) (Passage.Two (countedOf m))

@@ -1,4 +1,4 @@
-// The flow meter of one direction, lent by its holder and changed there.
+// The flow meter of one direction, lent by its holder and changed there, and the number of what became of it.
 ghost use mathlib.Core.Path.{_≡_};
 ghost use Rattle.flow_meter.specs.Lent.{spentBy, lentFitsOf, spendsOf, ticksOf, spentNumber, tickedNumber};
 use crate::Meter;
@@ -103,8 +103,8 @@ pub fn tick(m: &mut Meter, burst: u16, refill: u16) -> Ticked
     a
 }
 
-// What became of a message: it passed under service 2 or under service 3, it was dropped and set the mark, it was dropped, or no
-// service serves it. Unsound: the meter was not looked at further.
+// What became of a message: it passed under service 2 or under service 3, it was dropped and set the mark, it was
+// dropped, or no service serves it. Unsound: the meter was not looked at further.
 pub enum Spent {
     Two,
     Three,

@@ -1,5 +1,4 @@
-// The flow meter of one direction: credit, mark and service 2 count, what a message meets in it, and the same lent by its
-// holder. `call_meters` has the two of a call.
+// The flow meter of one direction: credit, mark and service 2 count, as service 3 comes into force and at a tick.
 ghost use mathlib.Core.Path.{_≡_};
 ghost use Rattle.flow_meter.specs.Meter.{emptyOf, meterFitsOf, grantedOf, refilledOf, tickedOf};
 

@@ -4,8 +4,8 @@ ghost use Rattle.flow_meter.specs.Passage.{underThreeOf, passageOf, afte
 use crate::GREATEST_COUNT;
 use crate::Meter;
 
-// What becomes of a USER INFORMATION message: it passes under service 2 or under service 3, it is dropped and sets the mark, it is
-// dropped, or no service serves it. Each of the first three holds the meter as it is to be afterwards.
+// What becomes of a USER INFORMATION message: it passes under service 2 or under service 3, it is dropped and sets the
+// mark, it is dropped, or no service serves it. Each of the first three holds the meter as it is to be afterwards.
 pub enum Passage {
     Two(Meter),
     Three(Meter),

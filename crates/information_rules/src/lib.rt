@@ -1,4 +1,4 @@
-// USER INFORMATION: which service serves it, what it is answered, and what both sides are sent.
+// USER INFORMATION: which service serves it. `messages` has what it is answered and what both sides are sent.
 ghost use mathlib.Core.Path.{_≡_};
 ghost use Rattle.information_rules.specs.Serving.{lateOf, servesTwoOf, servesThreeOf, servedOf};
 use flow_meter::Meter;
@@ -39,7 +39,8 @@ pub fn serves_three(p: Phase, force: bool) -> bool
     }
 }
 
-// What a side's message meets in its meter; `right` says whether the rights have late delivery, two and three which services are in force.
+// What a side's message meets in its meter; `right` says whether the rights have late delivery, two and three which
+// services are in force.
 pub fn served(m: Meter, p: Phase, side: Side, right: bool, two: bool, three: bool) -> Passage
     ensures { λ r. ⌜ r ≡ servedOf m p side right two three ⌝ }
 {

@@ -1,4 +1,5 @@
--- One piece after another, for whoever writes several: where a piece ends and, for functions inside a crate, what it leaves.
+-- One piece after another, for whoever writes several: where a piece ends and, for functions inside a crate, what it
+-- leaves.
 use Prim.Native.Nat.{ℕ, _+_}
 use mathlib.Core.List.{List}
 use mathlib.Core.Path.{_≡_}

@@ -1,5 +1,4 @@
-// Memory that the caller lends: what is put into it or why nothing is, and what is kept of it. `stretch` gives back so many
-// octets from a place on, as the very part of what the caller has.
+// Memory that the caller lends: what is put into it or why nothing is, and what is kept of it.
 ghost use mathlib.Core.Path.{_≡_};
 ghost use mathlib.Core.Bool.{true};
 ghost use Prim.Native.Nat.{_≤_, _+_};
@@ -58,8 +57,8 @@ pub fn write_octets(buf: &mut [u8], at: usize, piece: &[u8]) -> Wrote
     Wrote::To(put(buf, at, piece))
 }
 
-// Moves the octets of a buffer from a place to another to its front, and answers how many they are: what was not used of a
-// piece is the front of the next.
+// Moves the octets of a buffer from a place to another to its front, and answers how many they are: what was not used
+// of a piece is the front of the next.
 pub fn keep(buf: &mut [u8], from: usize, to: usize) -> usize
     ensures { λ r. ⌜ Kept from to (now (buf .entry)) (now (buf .exit)) r ⌝ }
 {

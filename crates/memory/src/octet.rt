@@ -1,4 +1,4 @@
-// An octet as a wider number.
+// An octet as a wider number: one of 16 bits, or one that counts octets.
 ghost use mathlib.Core.Path.{_≡_};
 ghost use Prim.Native.Nat.{_<_};
 

@@ -1,4 +1,4 @@
-// Reads a message: its header, and then its elements. No octet of it is copied.
+// A whole message read: its header, and then its elements; numbers 1 to 5. No octet of it is copied.
 ghost use mathlib.Core.Path.{_≡_};
 ghost use Prim.Native.Nat.{_<_};
 ghost use Rattle.message.specs.Reading.{referenceOf, headedOf, readOf};

@@ -1,4 +1,5 @@
-// What a message says, by value, and what reading one is answered.
+// The fields of a message by value, and what reading one gives: these and the place of its user-user element, or a
+// fault.
 ghost use mathlib.Core.Path.{_≡_};
 ghost use Prim.Native.Nat.{_≤_};
 ghost use Rattle.message_fields.specs.Width.{widthOf};
@@ -64,8 +65,8 @@ pub struct Reading {
     pub user: Place,
 }
 
-// Why a message is refused: it ends too early, is too long, begins with another protocol's octet, or has a reference length or
-// a type that is none of ours.
+// Why a message is refused: it ends too early, is too long, begins with another protocol's octet, or has a reference
+// length or a type that is none of ours.
 pub enum Fault {
     Short,
     TooLong,

@@ -95,8 +95,8 @@ fn put_facilities(buf: &mut [u8], at: usize, f: Facilities) -> usize
     }
 }
 
-// Writes the column, and the space before it; where they do not fit, nothing. They are laid out apart first, since how long
-// they are shows only when they are there.
+// Writes the column, and the space before it; where they do not fit, nothing. They are laid out apart first, since how
+// long they are shows only when they are there.
 pub(crate) fn write_facilities(buf: &mut [u8], at: usize, f: Facilities) -> Wrote
     ensures { λ r. ⌜ Written true at (column (facilityColumn f)) (now (buf .entry)) (now (buf .exit)) r ⌝ }
     ensures small { λ r. ⌜ length (column (facilityColumn f)) ≤ 87 ⌝ }

@@ -1,4 +1,4 @@
-// What is printed of one message: a line of columns.
+// The line of one message: what is printed of it, column by column.
 ghost use mathlib.Core.Path.{_≡_};
 ghost use mathlib.Core.Bool.{true};
 ghost use mathlib.Core.List.{_∷_, _++_};
@@ -174,8 +174,8 @@ fn put_columns(buf: &mut [u8], at: usize, r: Read) -> usize
     }
 }
 
-// Writes the line of a message that starts at an offset of its capture; where the line does not fit, nothing. It is laid out
-// apart first, since how long it is shows only when it is there.
+// Writes the line of a message that starts at an offset of its capture; where the line does not fit, nothing. It is
+// laid out apart first, since how long it is shows only when it is there.
 pub fn write_line(buf: &mut [u8], at: usize, offset: u64, m: &[u8]) -> Wrote
     ensures { λ r. ⌜ Written true at (lineOf offset (now (m .entry))) (now (buf .entry)) (now (buf .exit)) r ⌝ }
 {

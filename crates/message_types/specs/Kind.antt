@@ -31,7 +31,8 @@ kindOf x =
     (cond (eqb x 0x62) (Typed.Known Kind.Facility)
     (cond (eqb x 0x79) (Typed.Known Kind.CongestionControl) Typed.Unknown))))))))
 
--- "More data belongs to USER INFORMATION only, and a congestion level to CONGESTION CONTROL": which single octet a message may have
+-- "More data belongs to USER INFORMATION only, and a congestion level to CONGESTION CONTROL": which single octet a
+-- message may have
 abbrev pub classOf : Kind → Class
 classOf Kind.Alerting = Class.Plain
 classOf Kind.CallProceeding = Class.Plain

@@ -1,4 +1,4 @@
-// The nine message types.
+// The nine types of a message, the octet of each, and which single octet it may have.
 ghost use mathlib.Core.Path.{_≡_};
 ghost use Rattle.message_types.specs.Kind.{kindOf, kindOctet, classOf};
 

@@ -6,7 +6,8 @@ use mathlib.Core.Path.{_≡_}
 use Rattle.memory.specs.declared.Wrote.{Wrote}
 use Rattle.memory.specs.Room.{Written}
 
--- ONE REPLY. "the reply is f of the arguments", whatever f is: a number, a record, the list of what is lent at exit, or all of these
+-- ONE REPLY. "the reply is f of the arguments", whatever f is: a number, a record, the list of what is lent at exit, or
+-- all of these
 abbrev pub OneReply : Type 1
 OneReply = (A B : Type 0) (f : A → B) (x : A) (r s : B) → r ≡ f x → s ≡ f x → r ≡ s
 

@@ -1,4 +1,5 @@
--- What is promised of reading and writing, over the definitions. Each statement is a type; `proofs/Promises.antt` has its proof.
+-- What is promised of reading and writing, over the definitions. Each statement is a type; `proofs/Promises.antt` has
+-- its proof.
 use Prim.Native.Nat.{ℕ, _+_, _-_, _<_, _≤_}
 use mathlib.Core.List.{List, [], _∷_, _++_}
 use mathlib.Core.Logic.{_⊎_}
@@ -34,7 +35,8 @@ pub data Whole : List ℕ → Type 0 where
   announced : {x : ℕ} (b l : List ℕ) → x < 0x80 → Whole l → Whole (x ∷ length b ∷ (b ++ l))
 
 -- The table's numbers 1 to 5: "Reading gives 2 first, then the first fault from left to right." A message announces its
--- protocol octet, its reference length, then its reference and type, and in each element its length and that many octets.
+-- protocol octet, its reference length, then its reference and type, and in each element its length and that many
+-- octets.
 abbrev pub readRows : List ℕ → Rows
 readRows m =
     row (260 < length m) 2
@@ -50,8 +52,8 @@ readRows m =
 abbrev pub Reads : Type 0
 Reads = (m : List ℕ) → Exactly (readRows m) (readNumber (readOf m))
 
--- THE ELEMENT. Where a user-user element is given back, it lies in the message, begins 7E, and its length octet counts the
--- octets after the first two: it is whole, and no octet of it is lost.
+-- THE ELEMENT. Where a user-user element is given back, it lies in the message, begins 7E, and its length octet counts
+-- the octets after the first two: it is whole, and no octet of it is lost.
 pub record Element (m : List ℕ) (p n : ℕ) : Type 0 where
   pub within : p + n ≤ length m
   pub first : getD m p 0 ≡ 0x7E
@@ -114,8 +116,8 @@ pub record Write (w : Message) (u l : List ℕ) : Type 0 where
 abbrev pub Writes : Type 0
 Writes = (w : Message) (u l : List ℕ) → Write w u l
 
--- ROUND TRIP. For every message that the writer accepts and every buffer, whatever octets it held: reading the octets that were
--- written gives the same message, with the place of its element, and the same element octet for octet.
+-- ROUND TRIP. For every message that the writer accepts and every buffer, whatever octets it held: reading the octets
+-- that were written gives the same message, with the place of its element, and the same element octet for octet.
 abbrev pub placeFor : Message → List ℕ → Place
 placeFor w [] = Place.Absent
 placeFor w (x ∷ xs) = Place.At (length (frontOctets w)) (length (x ∷ xs))

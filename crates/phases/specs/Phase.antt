@@ -56,7 +56,8 @@ upOf Phase.Active = true
 upOf Phase.Clearing = false
 upOf Phase.Ended = false
 
--- "Places Fresh or Ended are free, all others are live." So are the phases of "RELEASE COMPLETE (up, Clearing)" and of the tick.
+-- "Places Fresh or Ended are free, all others are live." So are the phases of "RELEASE COMPLETE (up, Clearing)" and of
+-- the tick.
 abbrev pub liveOf : Phase → Bool
 liveOf Phase.Fresh = false
 liveOf Phase.Requested = true

@@ -90,8 +90,8 @@ tailOctets false u = []
 unfoldable pub recordOctets : ℕ → Event → List ℕ → List ℕ
 recordOctets r e u = headOctets r e ++ tailOctets (fieldedOf e) u
 
--- what a trace can hold of an event: X and Y in one octet, one reference, no More data, a cause up to 127, and none of the two
--- messages that are no events
+-- what a trace can hold of an event: X and Y in one octet, one reference, no More data, a cause up to 127, and none of
+-- the two messages that are no events
 abbrev pub eventFitsOf : ℕ → Event → Bool
 eventFitsOf r (Event.Setup n rights q) = (eqb n r && ltb (rights .burst) 256) && ltb (rights .refill) 256
 eventFitsOf r (Event.Alerting a) = true

@@ -1,4 +1,4 @@
-// A record of a trace, written into a buffer that the caller lends.
+// A record of a trace, written into a buffer that the caller lends, or why it is not; numbers 6 and 7.
 ghost use mathlib.Core.Path.{_≡_};
 ghost use mathlib.Core.Bool.{cond};
 ghost use mathlib.Core.List.{[], _++_};

@@ -1,4 +1,4 @@
-// Rights of a call, and the ranges of their fields.
+// The rights of a call, and the ranges of their fields and of a reference.
 ghost use mathlib.Core.Path.{_≡_};
 ghost use Rattle.rights.specs.Rights.{hasOf, rightsFitOf, referenceFitsOf, noRights};
 

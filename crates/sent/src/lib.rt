@@ -1,4 +1,5 @@
-// A message to one user.
+// A message to one user, as a reply names it: its type, its cause, what it says of services, and whether the element
+// goes out.
 ghost use mathlib.Core.Path.{_≡_};
 ghost use Rattle.sent.specs.Message.{sayingOf, bareOf, congestionOf, informsOf, onlyIfOf};
 use cause::Cause;

@@ -88,8 +88,8 @@ networkRefusalsOf rights q =
 unfoldable pub setupPhaseOf : Bool → Phase
 setupPhaseOf lacking = cond lacking Phase.Ended Phase.Requested
 
--- "RELEASE COMPLETE to the caller, cause 50, rejectedByNetwork for every asked service the rights lack"; otherwise "CALL PROCEEDING to the caller
--- with rejectedByNetwork for each explicit preferred service lacking"
+-- "RELEASE COMPLETE to the caller, cause 50, rejectedByNetwork for every asked service the rights lack"; otherwise
+-- "CALL PROCEEDING to the caller with rejectedByNetwork for each explicit preferred service lacking"
 unfoldable pub toCallerOf : Bool → Facilities → Sent
 toCallerOf lacking refusals =
     cond lacking (sayingOf Kind.ReleaseComplete (Cause.Value notSubscribed) refusals false)

@@ -1,4 +1,4 @@
-// What SETUP asks for, held against the rights: how each service then stands, and what is said of it to each user.
+// SETUP: what it asks for, held against the rights: how each service then stands, and what is said of it to each user.
 ghost use mathlib.Core.Path.{_≡_};
 ghost use Rattle.setup_rules.specs.Requests.{askedStandingOf, firstStandingOf, lackingOf, passedRequestOf, networkRefusalOf, standingsOf, lacksOf, networkRefusalsOf, passedRequestsOf, openingOf};
 use cause::Cause;
@@ -23,7 +23,8 @@ use user_element::goes_out;
 use user_element::noted;
 use user_element::whole;
 
-// What a SETUP that is taken makes of the call: its phase, how each service stands, the element's note, and the two messages.
+// What a SETUP that is taken makes of the call: its phase, how each service stands, the element's note, and the two
+// messages.
 pub struct Opening {
     pub phase: Phase,
     pub standings: Standings,

@@ -1,5 +1,6 @@
-// Standard input and standard output as the programs use them, with a buffer that holds what was read and not used yet. No contract can
-// say what is read or written: `send` and `fetch` are proved to reach into no other memory than the buffer's.
+// Standard input and output as the programs use them, with a buffer that holds what was read and not used yet. No
+// contract can say what is read or written: `send` and `fetch` are proved to reach into no other memory than the
+// buffer's.
 ghost use mathlib.Core.Path.{_≡_};
 ghost use Rattle.memory.specs.Room.{keptOf};
 use libc::STDIN_FILENO;
@@ -43,7 +44,8 @@ fn read_after(buf: &mut [u8], left: usize) -> usize {
     io::count(got, part)
 }
 
-// What is held goes to the buffer's front, and more is read after it. A read that fails, or gives nothing, is the end of the input.
+// What is held goes to the buffer's front, and more is read after it. A read that fails, or gives nothing, is the end
+// of the input.
 pub fn fetch(buf: &mut [u8], from: usize, to: usize) -> Fetched {
     let left = keep(buf, from, to);
     let got = read_after(buf, left);

@@ -1,5 +1,5 @@
--- The two calls that a walk makes with a lent table: of `call_at` for the record at a place, and of `first_from` for the first record from a place on that meets what is sought.
--- Assumes `Given`.
+-- The two calls that a walk makes with a lent table: of `call_at` for the record at a place, and of `first_from` for
+-- the first record from a place on that meets what is sought. Assumes `Given`.
 use mathlib.Core.Path.{_≡_, refl}
 use Prim.Native.Nat.{ℕ, _<_, _^_}
 use mathlib.Core.List.{List, [], _∷_}

@@ -1,4 +1,5 @@
--- The first record from a place on that is live and of a reference, as the loop answers it and as `find` is to answer it.
+-- The first record from a place on that is live and of a reference, as the loop answers it and as `find` is to answer
+-- it.
 use mathlib.Core.Path.{_≡_, refl, ap}
 use Prim.Native.Nat.{ℕ, _+_}
 use mathlib.Core.Bool.{cond}

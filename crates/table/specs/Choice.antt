@@ -1,4 +1,5 @@
--- Numbers 21 to 25: "25 comes first of 11 to 25; then the table gives 24, 22, 21 for SETUP and 23 for other events; then the call".
+-- Numbers 21 to 25: "25 comes first of 11 to 25; then the table gives 24, 22, 21 for SETUP and 23 for other events;
+-- then the call".
 use Prim.Native.Nat.{ℕ}
 use mathlib.Core.Bool.{Bool, true, false, cond, _&&_}
 use Rattle.rights.specs.Rights.{rightsFitOf, referenceFitsOf}
@@ -12,7 +13,8 @@ use mathlib.Core.List.{List}
 use Rattle.call.specs.declared.Call.{Call}
 use Rattle.table.specs.Table.{tableSound, findFrom, placeFrom}
 
--- what an event wants of the table: SETUP a place under its own reference, with "reference or rights out of range" or not; others that of a live call
+-- what an event wants of the table: SETUP a place under its own reference, with "reference or rights out of range" or
+-- not; others that of a live call
 abbrev pub wantedOf : Event → Wanted
 wantedOf (Event.Setup reference rights requests) = Wanted.New reference (referenceFitsOf reference && rightsFitOf rights)
 wantedOf (Event.Alerting answers) = Wanted.Old

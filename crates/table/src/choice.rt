@@ -18,8 +18,8 @@ pub enum Choice {
     Refused(Verdict),
 }
 
-// What an event wants of the table: SETUP a new place, under its own reference, with reference and rights in range or not; any
-// other event the place of a call that is there.
+// What an event wants of the table: SETUP a new place, under its own reference, with reference and rights in range or
+// not; any other event the place of a call that is there.
 pub enum Wanted {
     New(u16, bool),
     Old,

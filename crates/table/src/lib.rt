@@ -1,4 +1,5 @@
-// A lent table of call records: looked through, and found sound or not.
+// A lent table of call records: the live record of a reference, the lowest free place, and whether all is sound;
+// numbers 21 to 25.
 ghost use mathlib.Core.Path.{_≡_};
 ghost use lib.ListN.{getD, drop};
 ghost use Rattle.call.specs.Sound.{freshCall};

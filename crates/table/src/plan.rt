@@ -1,4 +1,4 @@
-// What an event makes of the table, decided by value: what is put there, and what is answered.
+// What an event makes of the table, decided by value: what is to be put there, and what is answered.
 ghost use mathlib.Core.Path.{_≡_};
 ghost use Rattle.table.specs.Plan.{rowOf, recordOf, planOf};
 ghost use Rattle.table.specs.declared.plan.Looked.{Looked};

@@ -1,4 +1,4 @@
-// An event at a lent table.
+// An event at a lent table: which record it goes to, the two halves `look` and `commit`, and all in one `step`.
 ghost use mathlib.Core.Path.{_≡_};
 ghost use Rattle.table.specs.Halves.{lookOf, committed};
 ghost use Rattle.table.specs.Step.{stepOutcome, stepTable};

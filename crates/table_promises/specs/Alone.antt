@@ -1,5 +1,5 @@
--- "Two runs from such tables, all Fresh, that agree on one reference's events, and on which of its SETUPs met 21, give that reference the
--- same answers."
+-- "Two runs from such tables, all Fresh, that agree on one reference's events, and on which of its SETUPs met 21, give
+-- that reference the same answers."
 use Prim.Native.Nat.{ℕ, _<_, _≤_}
 use mathlib.Core.Bool.{Bool, false, cond}
 use mathlib.Core.List.{List, [], _∷_}
@@ -70,8 +70,8 @@ Alone =
     fullOf (ownOf n (tableRunOf t os)) ≡ fullOf (ownOf n (tableRunOf t′ os′)) →
     outcomesOf (ownOf n (tableRunOf t os)) ≡ outcomesOf (ownOf n (tableRunOf t′ os′))
 
--- MET. Two runs that agree so: at a table of one place and of two, with other references' events in between. The first SETUP of reference 5
--- meets 21 in both.
+-- MET. Two runs that agree so: at a table of one place and of two, with other references' events in between. The first
+-- SETUP of reference 5 meets 21 in both.
 abbrev pub offers : ℕ → Event → Offered
 offers n e = record { reference = n; event = e; element = [] }
 

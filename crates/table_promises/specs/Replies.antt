@@ -1,5 +1,5 @@
--- What is sent at the table, and what a taken event leaves there. `Met` in Alone.antt computes runs with events that the table refuses (21, 22, 23),
--- that the call refuses (13) and that are taken.
+-- What is sent at the table, and what a taken event leaves there. `Met` in Alone.antt computes runs with events that
+-- the table refuses (21, 22, 23), that the call refuses (13) and that are taken.
 use Prim.Native.Nat.{ℕ}
 use mathlib.Core.Bool.{false, cond}
 use mathlib.Core.List.{List}
@@ -28,8 +28,8 @@ pub data SetupBarred (t : List Call) (reference : ℕ) (rights : Rights) : Type 
   alreadyHeld : Held t reference → SetupBarred t reference rights
   noPlace : Full t → SetupBarred t reference rights
 
--- What the table itself refuses: any event with 25, SETUP as above, "and 23 for other events". n is the reference beside the event, and
--- `opensOf e` says that e is a SETUP.
+-- What the table itself refuses: any event with 25, SETUP as above, "and 23 for other events". n is the reference
+-- beside the event, and `opensOf e` says that e is a SETUP.
 pub data TableRefuses (t : List Call) (n : ℕ) : Event → Type 0 where
   faulty : (e : Event) → Faulty t → TableRefuses t n e
   setup : (reference : ℕ) (rights : Rights) (requests : Requests) →
@@ -54,14 +54,15 @@ pub record Gives (s : List Call) (place : ℕ) (o : Outcome) (r : Reply) : Type 
   pub called : o .called ≡ r .called
   pub holds : numberOf (r .answer) ≡ 0 → getD s place freshCall ≡ r .call
 
--- the reply of the call at the place that the event names: the lowest free one for SETUP, for others that of the live call of their reference
+-- the reply of the call at the place that the event names: the lowest free one for SETUP, for others that of the live
+-- call of their reference
 pub record Own (t s : List Call) (n : ℕ) (e : Event) (element : List ℕ) (o : Outcome) : Type 0 where
   pub place : ℕ
   pub named : Names t n place e
   pub reply : Gives s place o (stepOf (stepsFrom (getD t place freshCall) e) e element)
 
--- REPLIES. Where the table itself refuses, nothing is sent and the note is 0. Otherwise number, note and messages are those of the call's own
--- reply, and where it is taken the place holds the record of that reply.
+-- REPLIES. Where the table itself refuses, nothing is sent and the note is 0. Otherwise number, note and messages are
+-- those of the call's own reply, and where it is taken the place holds the record of that reply.
 abbrev pub Replies : Type 0
 Replies =
     (t : List Call) (n : ℕ) (e : Event) (element : List ℕ) →

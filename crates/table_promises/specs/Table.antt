@@ -1,4 +1,4 @@
--- What is promised of the table, over the definitions. Each statement is a type; `proofs/Promises.antt` has its proof.
+-- What is promised of the table, over the definitions. Each statement is a type; `proofs/Table.antt` has its proof.
 use Prim.Native.Nat.{ℕ, _<_}
 use mathlib.Core.Bool.{cond}
 use mathlib.Core.List.{List, [], _∷_}
@@ -36,8 +36,8 @@ Held t n = (i : ℕ) × LiveAt t i n
 abbrev pub Full : List Call → Type 0
 Full t = (i : ℕ) → i < length t → Free (getD t i freshCall .phase) → ⊥
 
--- "table over 32 records, two live records of one reference, or a live record or meter with a field out of range, credit over X or
--- count over 2"
+-- "table over 32 records, two live records of one reference, or a live record or meter with a field out of range,
+-- credit over X or count over 2"
 pub data Faulty (t : List Call) : Type 0 where
   over : 32 < length t → Faulty t
   twins : (i j n : ℕ) → i < j → LiveAt t i n → LiveAt t j n → Faulty t
@@ -56,8 +56,8 @@ pub data SetsUp (P : ℕ → Rights → Type 0) : Event → Type 0 where
 abbrev pub Other : Event → Type 0
 Other e = SetsUp (λ reference rights. Unit {0}) e → ⊥
 
--- TABLE. "25 comes first of 11 to 25; then the table gives 24, 22, 21 for SETUP and 23 for other events; then the call". A SETUP that the
--- table does not refuse is taken.
+-- TABLE. "25 comes first of 11 to 25; then the table gives 24, 22, 21 for SETUP and 23 for other events; then the
+-- call". A SETUP that the table does not refuse is taken.
 abbrev pub tableRows : List Call → ℕ → Event → List ℕ → Rows
 tableRows t n e element =
     row (Faulty t) 25
@@ -88,8 +88,8 @@ pub record OneChanged (t s : List Call) : Type 0 where
 abbrev pub OnePlace : Type 0
 OnePlace = (t : List Call) (n : ℕ) (e : Event) (element : List ℕ) → OneChanged t (stepTable t n e element)
 
--- NAMED. Every record that a step does not name is left as it was: a place that changes is the lowest free one, for SETUP, or that of the
--- live call of the event's reference.
+-- NAMED. Every record that a step does not name is left as it was: a place that changes is the lowest free one, for
+-- SETUP, or that of the live call of the event's reference.
 pub record Lowest (t : List Call) (i : ℕ) : Type 0 where
   pub within : i < length t
   pub free : Free (getD t i freshCall .phase)
@@ -104,8 +104,8 @@ Named =
     (t : List Call) (n : ℕ) (e : Event) (element : List ℕ) (i : ℕ) →
     (getD (stepTable t n e element) i freshCall ≡ getD t i freshCall → ⊥) → Names t n i e
 
--- FOURTEEN. "14 may set the not-ready mark": then one live record of the event's reference is what the call itself made of it, answering 14, and
--- all others are as they were. What that changes in the record is the call's to promise.
+-- FOURTEEN. "14 may set the not-ready mark": then one live record of the event's reference is what the call itself made
+-- of it, answering 14, and all others are as they were. What that changes in the record is the call's to promise.
 pub record OneSpent (t s : List Call) (n : ℕ) (e : Event) (element : List ℕ) : Type 0 where
   pub place : ℕ
   pub live : LiveAt t place n

@@ -14,8 +14,8 @@ fn digit(d: u64) -> u8
     48 + d as u8
 }
 
-// Writes the digits from a place on; where they do not fit, nothing. They are found from the last to the first, so they are
-// laid out in an array of the most that a number has.
+// Writes the digits from a place on; where they do not fit, nothing. They are found from the last to the first, so they
+// are laid out in an array of the most that a number has.
 pub fn write_decimal(buf: &mut [u8], at: usize, n: u64) -> Wrote
     ensures { λ r. ⌜ Written true at (decimalOf n) (now (buf .entry)) (now (buf .exit)) r ⌝ }
 {

@@ -1,5 +1,5 @@
--- "One octet of kind, then a body of fixed length: 1 SETUP 143, 2 ALERTING 137, 3 CONNECT 137, 4 USER INFORMATION 135, 5 FACILITY 4,
--- 6 DISCONNECT 139, 7 RELEASE COMPLETE 3, 8 tick 2."
+-- "One octet of kind, then a body of fixed length: 1 SETUP 143, 2 ALERTING 137, 3 CONNECT 137, 4 USER INFORMATION 135,
+-- 5 FACILITY 4, 6 DISCONNECT 139, 7 RELEASE COMPLETE 3, 8 tick 2."
 use Prim.Native.Nat.{ℕ, _+_}
 use mathlib.Core.Bool.{cond}
 use lib.Dec.{eqb}

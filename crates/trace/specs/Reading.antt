@@ -47,7 +47,8 @@ placeOf RecordKind.Tick = 0
 unfoldable pub closesOf : ℕ → List ℕ → Bool
 closesOf p t = ((leb (getD t p 0) 2 && leb (getD t (p + 1) 0) 2) && leb (getD t (p + 2) 0) 2) && fieldAtOf (p + 3) t
 
--- "33: late, leave or side over 1, request or answer over 2, what over 3, cause over 127, element field not of that form."
+-- "33: late, leave or side over 1, request or answer over 2, what over 3, cause over 127, element field not of that
+-- form."
 abbrev pub rangedOf : RecordKind → List ℕ → Bool
 rangedOf RecordKind.Setup t = (leb (getD t 4 0) 1 && leb (getD t 5 0) 1) && closesOf 9 t
 rangedOf RecordKind.Alerting t = closesOf 3 t
@@ -108,7 +109,8 @@ namedOf (NamedKind.Known k) t =
     cond (ltb (length t) (sizeOf k)) (Record.Refused Fault.Short)
     (cond (rangedOf k t) (Record.Taken (entryOf k t)) (Record.Refused Fault.Range))
 
--- "31, 32, 33: trace: unknown kind; record cut short; field out of range; in this order". A trace may end between records.
+-- "31, 32, 33: trace: unknown kind; record cut short; field out of range; in this order". A trace may end between
+-- records.
 unfoldable pub recordOf : List ℕ → Record
 recordOf t = cond (eqb (length t) 0) Record.End (namedOf (recordKindOf (getD t 0 0)) t)
 

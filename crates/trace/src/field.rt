@@ -1,4 +1,4 @@
-// The fields of a body: small numbers, and the element with the zeros after it.
+// The element field of a record: how many octets, the octets, and the zeros after them.
 ghost use mathlib.Core.Path.{_≡_};
 ghost use Rattle.trace.specs.Field.{blankOf, fieldFitsOf};
 use memory::octet::wide;

@@ -1,4 +1,4 @@
-// A record of a trace, read: its event and where its element stands.
+// A record of a trace, read: its event, and its element as a part of the trace; numbers 31 to 33.
 ghost use mathlib.Core.Path.{_≡_};
 ghost use Prim.Native.Nat.{_≤_, _<_, _+_};
 ghost use lib.ListN.{length};

@@ -1,4 +1,4 @@
-// The small numbers of a body: what an octet of a field says.
+// The small numbers of a record: what an octet of a field says.
 ghost use mathlib.Core.Path.{_≡_};
 ghost use Rattle.trace.specs.Values.{flagOf, sideOf, requestOf, givenOf, whatOf};
 use facility_rules::What;

@@ -21,8 +21,8 @@ levelItem Level.Absent = []
 levelItem Level.Ready = (114 ∷ 101 ∷ 97 ∷ 100 ∷ 121 ∷ []) ∷ []
 levelItem Level.NotReady = (110 ∷ 111 ∷ 116 ∷ 114 ∷ 101 ∷ 97 ∷ 100 ∷ 121 ∷ []) ∷ []
 
--- for services 1, 2, 3 what is said of them, as `1.p` (asked as preferred), `1.r` (asked as required), `1.ok` (accepted), `1.user`
--- (rejectedByUser), `1.network` (rejectedByNetwork); the digit is that of the service
+-- for services 1, 2, 3 what is said of them, as `1.p` (asked as preferred), `1.r` (asked as required), `1.ok`
+-- (accepted), `1.user` (rejectedByUser), `1.network` (rejectedByNetwork); the digit is that of the service
 abbrev pub saidItem : ℕ → Said → List (List ℕ)
 saidItem digit Said.Nothing = []
 saidItem digit Said.Preferred = (digit ∷ 46 ∷ 112 ∷ []) ∷ []

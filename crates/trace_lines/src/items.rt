@@ -131,8 +131,8 @@ fn put_sent(buf: &mut [u8], at: usize, s: Sent) -> usize
     }
 }
 
-// Writes the column of what is sent to a user; where it does not fit, nothing. Near the buffer's end it is laid out apart
-// first, since how long it is shows only when it is there.
+// Writes the column of what is sent to a user; where it does not fit, nothing. Near the buffer's end it is laid out
+// apart first, since how long it is shows only when it is there.
 pub(crate) fn write_sent(buf: &mut [u8], at: usize, s: Sent) -> Wrote
     ensures { λ r. ⌜ Written true at (column (messageColumn s)) (now (buf .entry)) (now (buf .exit)) r ⌝ }
     ensures small { λ r. ⌜ length (column (messageColumn s)) ≤ 79 ⌝ }

@@ -122,8 +122,8 @@ fn put_line(buf: &mut [u8], at: usize, explained: bool, o: Columns) -> usize
     c + 1
 }
 
-// Writes the line of a record; where it does not fit, nothing. Near the buffer's end it is laid out apart first, since how
-// long it is shows only when it is there.
+// Writes the line of a record; where it does not fit, nothing. Near the buffer's end it is laid out apart first, since
+// how long it is shows only when it is there.
 pub fn write_line(buf: &mut [u8], at: usize, explained: bool, o: Columns) -> Wrote
     ensures { λ r. ⌜ Written true at (lineOf explained o) (now (buf .entry)) (now (buf .exit)) r ⌝ }
 {

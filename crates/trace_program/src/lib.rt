@@ -1,5 +1,5 @@
-// A trace from standard input to standard output, in a fixed amount of memory. What is printed is computed in `rerun` and
-// `notices`; here octets are only read, kept and written.
+// What `replay` and `explain` share: a trace from standard input to standard output, in a fixed amount of memory. What
+// is printed is computed in `trace_run` and `trace_lines`; here octets are only read, kept and written.
 use call::Call;
 use memory::end_of;
 use streams::fetch;
@@ -8,8 +8,8 @@ use streams::send;
 use trace_lines::notices::write_first;
 use trace_run::work_off;
 
-// The octets of the trace that the buffer holds, from one place to another, and the calls. last: nothing more comes after
-// these octets. more: the run goes on.
+// The octets of the trace that the buffer holds, from one place to another, and the calls. last: nothing more comes
+// after these octets. more: the run goes on.
 struct Held {
     calls: [Call; 32],
     from: usize,
@@ -18,8 +18,8 @@ struct Held {
     more: bool,
 }
 
-// What is held goes to the buffer's front, and more is read after it. Where nothing comes, what is held is the last; and where
-// it was the last already, nothing more is read and the run ends.
+// What is held goes to the buffer's front, and more is read after it. Where nothing comes, what is held is the last;
+// and where it was the last already, nothing more is read and the run ends.
 fn refill(buf: &mut [u8], h: Held) -> Held {
     let calls = h.calls;
     if h.last {

@@ -48,7 +48,8 @@ all-octets [] h i = omega arith
 all-octets (x ∷ t) h zero = ltb-true x 256 (both (ltb x 256) (below t) h .0)
 all-octets (x ∷ t) h (suc i) = all-octets t (both (ltb x 256) (below t) h .1) i
 
--- the first part is read, and its line is printed where it fits exactly; the tick waits for the second; what is left of that is the last
+-- the first part is read, and its line is printed where it fits exactly; the tick waits for the second; what is left of
+-- that is the last
 ran : (explained : Bool) → Ran explained (onePart ++ otherPart ++ []) (lines explained)
 unfolding emptyOf meterFitsOf wellFormedOf seenOf goesOutOf rightsFitOf referenceFitsOf remainsOf firstStandingOf standingsOf lacksOf passedRequestsOf networkRefusalsOf nobodyAsks sayingOf onlyIfOf noRights noServices emptyMeters freshCall fieldsFitOf soundOf barOf refusedOf heardOf setupPhaseOf filledOf toCallerOf toCalledOf setupCarriesOf proceedsOf setupOf metersOf refillsOf readyOf runsOf passesTickOf tickOf tableSound chooseOf chosenOf subjectOf recordKeptOf heardOutcomeOf tableRefusalOf settledOf stepOutcome stepTable recordKindOf flagOf requestOf blankOf fieldFitsOf recordReferenceOf fieldAtOf closesOf rightsOf requestsOf countOf entryOf recordOf elementOf digitsOf decimalOf digitOf itemsOf commas joined numberColumns typeColumns lineOf frontOf turnedAt columnsOf lineAt runIn traceRunOf
 ran false =

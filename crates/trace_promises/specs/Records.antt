@@ -1,4 +1,5 @@
--- What is promised of the records of a trace, over the definitions. Each statement is a type; `proofs/Promises.antt` has its proof.
+-- What is promised of the records of a trace, over the definitions. Each statement is a type; `proofs/Records.antt` has
+-- its proof.
 use Prim.Native.Nat.{ℕ, _+_, _-_, _<_, _≤_}
 use mathlib.Core.List.{List}
 use mathlib.Core.Logic.{_⊎_}
@@ -17,7 +18,8 @@ recordNumber Record.End = 0
 recordNumber (Record.Taken e) = 0
 recordNumber (Record.Refused f) = traceFaultNumber f
 
--- RECORDS. "An element field is n (0 for absent, or 2 to 131), the n octets beginning 126 and n − 2, then zeros to 132 in all."
+-- RECORDS. "An element field is n (0 for absent, or 2 to 131), the n octets beginning 126 and n − 2, then zeros to 132
+-- in all."
 pub record Zeros (t : List ℕ) (p q : ℕ) : Type 0 where
   pub zero : (i : ℕ) → p ≤ i → i < q → getD t i 0 ≡ 0
 
@@ -37,7 +39,8 @@ pub record Three (t : List ℕ) (p : ℕ) : Type 0 where
   pub two : getD t (p + 1) 0 ≤ 2
   pub three : getD t (p + 2) 0 ≤ 2
 
--- "33: late, leave or side over 1, request or answer over 2, what over 3, cause over 127, element field not of that form."
+-- "33: late, leave or side over 1, request or answer over 2, what over 3, cause over 127, element field not of that
+-- form."
 abbrev pub InRange : RecordKind → List ℕ → Type 0
 InRange RecordKind.Setup t = (getD t 4 0 ≤ 1) × (getD t 5 0 ≤ 1) × Three t 9 × Field t 12
 InRange RecordKind.Alerting t = Three t 3 × Field t 6

@@ -1,4 +1,4 @@
--- What is promised of a record that is written. The statement is a type; `proofs/Trip.antt` has its proof.
+-- What is promised of a record that is written. The statement is a type; `proofs/RoundTrip.antt` has its proof.
 use Prim.Native.Nat.{ℕ}
 use mathlib.Core.List.{List, _++_}
 use mathlib.Core.Bool.{true}

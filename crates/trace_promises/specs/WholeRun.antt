@@ -1,4 +1,5 @@
--- What is promised of a trace that is read in pieces, over the definitions. Each statement is a type; `proofs/` has its proof.
+-- What is promised of a trace that is read in pieces, over the definitions. Each statement is a type; `proofs/` has its
+-- proof.
 use Prim.Native.Nat.{ℕ, zero, suc, _<_, _≤_}
 use mathlib.Core.List.{List, [], _++_}
 use mathlib.Core.Bool.{Bool, true, false, cond}
@@ -54,9 +55,10 @@ thenMade r m =
       ended = cond (r .ended) true (m .ended);
     }
 
--- GOES ON. A piece t of a trace was worked off as far as it went, into a buffer with some room, and what was not used of it is taken up
--- again with whatever comes after it, at the table that it left: the text, the table and the end are those of the whole. So it does not
--- matter where the trace is cut into pieces, how long they are, or how much room there is at a time. Nothing comes after the last piece.
+-- GOES ON. A piece t of a trace was worked off as far as it went, into a buffer with some room, and what was not used
+-- of it is taken up again with whatever comes after it, at the table that it left: the text, the table and the end are
+-- those of the whole. So it does not matter where the trace is cut into pieces, how long they are, or how much room
+-- there is at a time. Nothing comes after the last piece.
 abbrev pub GoesOn : Type 0
 GoesOn =
     (explained last : Bool) (room : ℕ) (calls : List Call) (t more : List ℕ) → (last ≡ true → more ≡ []) →
@@ -64,9 +66,10 @@ GoesOn =
     ≡ thenMade (traceRunOf explained last room calls t)
     (madeOf explained (traceRunOf explained last room calls t .calls) (drop (traceRunOf explained last room calls t .used) t ++ more))
 
--- BOUNDED. The line of a record of octets has at most 143 octets, whatever stands in the table: 12 for the four numbers, 6 for the two types,
--- 62 for what each of two messages says, and its end. So in a buffer of 143 octets there is room for any line, and what nothing is printed
--- of there is no whole record: it has at most 143 octets, and more can be read after it; where nothing more comes it has none.
+-- BOUNDED. The line of a record of octets has at most 143 octets, whatever stands in the table: 12 for the four
+-- numbers, 6 for the two types, 62 for what each of two messages says, and its end. So in a buffer of 143 octets there
+-- is room for any line, and what nothing is printed of there is no whole record: it has at most 143 octets, and more
+-- can be read after it; where nothing more comes it has none.
 abbrev pub Octets : List ℕ → Type 0
 Octets t = (i : ℕ) → getD t i 0 < 256
 
@@ -82,9 +85,10 @@ pub record Bounds (explained : Bool) (calls : List Call) (t : List ℕ) : Type 0
 abbrev pub Bounded : Type 0
 Bounded = (explained : Bool) (calls : List Call) (t : List ℕ) → Octets t → Bounds explained calls t
 
--- A RUN of the program: whether what it holds is the last, the table, what it holds of a trace, what has yet to be read, what it prints from
--- here on, and the table that it leaves. It reads a part; or nothing comes, and what it holds is the last; or it prints what it can of what it
--- holds into a buffer, and a fault ends it or it goes on; or nothing could be printed of the last, though there was room for any line.
+-- A RUN of the program: whether what it holds is the last, the table, what it holds of a trace, what has yet to be
+-- read, what it prints from here on, and the table that it leaves. It reads a part; or nothing comes, and what it holds
+-- is the last; or it prints what it can of what it holds into a buffer, and a fault ends it or it goes on; or nothing
+-- could be printed of the last, though there was room for any line.
 pub data Run (explained : Bool) : Bool → List Call → List ℕ → List ℕ → List ℕ → List Call → Type 0 where
   reads :
       {calls left : List Call} (held part more : List ℕ) {text : List ℕ}
@@ -105,8 +109,8 @@ pub data Run (explained : Bool) : Bool → List Call → List ℕ → List ℕ �
       {calls : List Call} (room : ℕ) (held : List ℕ) → longest ≤ room → traceRunOf explained true room calls held .text ≡ []
       → Run explained true calls held [] [] calls
 
--- WHOLE. However the reads fall and however much room there is at a time, a run from nothing and 32 fresh places prints what is to be printed
--- of the trace, and leaves the table that the trace makes.
+-- WHOLE. However the reads fall and however much room there is at a time, a run from nothing and 32 fresh places prints
+-- what is to be printed of the trace, and leaves the table that the trace makes.
 pub record Printed (explained : Bool) (trace text : List ℕ) (left : List Call) : Type 0 where
   pub printed : firstLine explained ++ text ≡ printedOf explained trace
   pub table : left ≡ madeOf explained places trace .calls

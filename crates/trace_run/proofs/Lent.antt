@@ -1,7 +1,7 @@
--- A `&mut [T]` that a loop lends turn by turn: its machine value is that of its length at entry, n, whatever list it holds. `Looks.antt` and `Again.antt` of `exchange` at such a value.
---     shares, shared-back      lent as a `&[T]` for a call, and back
---     lends, lent-back         lent again for a call, and back at the list that the call left
--- It says nothing of the crate, and can be copied as it stands. Assumes `Given`.
+-- A `&mut [T]` that a loop lends turn by turn: its machine value is that of its length at entry, n, whatever list it
+-- holds. `Looks.antt` and `Again.antt` of `table` at such a value. shares, shared-back      lent as a `&[T]` for a
+-- call, and back lends, lent-back         lent again for a call, and back at the list that the call left It says
+-- nothing of the crate, and can be copied as it stands. Assumes `Given`.
 use mathlib.Core.Path.{_≡_, sym, subst}
 use Prim.Native.Nat.{ℕ}
 use mathlib.Core.List.{List, [], _∷_}

@@ -1,4 +1,5 @@
--- A trace, worked off piece by piece: "then one line a record", and "A trace fault prints `error 31` (or 32, 33) and ends the run."
+-- A trace, worked off piece by piece: "then one line a record", and "A trace fault prints `error 31` (or 32, 33) and
+-- ends the run."
 use Prim.Native.Nat.{ℕ, zero, suc, _+_, _-_}
 use mathlib.Core.List.{List, [], _++_}
 use mathlib.Core.Bool.{Bool, true, false, cond}
@@ -36,7 +37,8 @@ turnedAt calls e t =
 unfoldable pub lineAt : Bool → List Call → Entry → List ℕ → List ℕ
 lineAt explained calls e t = lineOf explained (columnsOf e (turnedAt calls e t .outcome))
 
--- what is made of a piece: the table, how much of the piece was used, what was printed, and whether a fault ended the run
+-- what is made of a piece: the table, how much of the piece was used, what was printed, and whether a fault ended the
+-- run
 pub record Ran : Type 0 where
   pub calls : List Call
   pub used : ℕ

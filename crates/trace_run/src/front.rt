@@ -1,4 +1,4 @@
-// What a piece of trace begins with, what that asks of a table of calls, and what is printed of the answer; all by value.
+// What a piece of trace begins with, and what that asks of a table of calls; by value.
 ghost use mathlib.Core.Path.{_≡_};
 ghost use Rattle.trace_run.specs.Front.{frontOf, referenceIn, eventIn};
 use event::Event;

@@ -1,4 +1,4 @@
-// A trace, worked off piece by piece: each record at a table of calls, and a line of it.
+// A piece of trace worked off at a lent table, or at one by value: each record's event, and its line.
 ghost use mathlib.Core.Path.{_≡_};
 ghost use mathlib.Core.Bool.{false};
 ghost use Prim.Native.Nat.{_+_, _≤_};
@@ -128,9 +128,9 @@ fn so_far(calls: [Call; 32], s: Stand) -> Worked
     }
 }
 
-// Works off the records at the front of a piece of trace, at a table that is lent for the whole of it: as many as are whole
-// and have lines that fit the buffer, up to a fault. last: nothing comes after the piece. What was not used is the front of
-// the next piece.
+// Works off the records at the front of a piece of trace, at a table that is lent for the whole of it: as many as are
+// whole and have lines that fit the buffer, up to a fault. last: nothing comes after the piece. What was not used is
+// the front of the next piece.
 pub fn work_off_at(
     t: &mut [Call],
     piece: &[u8],

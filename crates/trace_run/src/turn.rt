@@ -1,4 +1,5 @@
-// One turn of a run over a trace, where its text is written or has no room: what is put into the table, and where the run then stands.
+// One turn of a run, once its text is written or has no room: what is put into the table, and where the run then
+// stands.
 ghost use mathlib.Core.Path.{_≡_};
 ghost use lib.ListN.{length};
 ghost use Rattle.trace_lines.specs.Notices.{faultLine};
@@ -8,8 +9,8 @@ use table::plan::Change;
 use trace::Fault;
 use trace_lines::notices::write_fault;
 
-// Where a run stands. used: how many octets of the piece; wrote: how many octets of text; ended: whether a fault ended the run; more: whether it
-// goes on.
+// Where a run stands. used: how many octets of the piece; wrote: how many octets of text; ended: whether a fault ended
+// the run; more: whether it goes on.
 pub struct Stand {
     pub used: usize,
     pub wrote: usize,

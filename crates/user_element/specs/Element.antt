@@ -37,8 +37,8 @@ wholeOf Seen.Malformed = false
 wholeOf Seen.TooLong = false
 wholeOf Seen.Whole = true
 
--- "0 none, 1 .., 2 .., 3 .. service 1 not in force, in SETUP not remaining, or the message not carried on; the first that applies."
--- carried says that the message goes on and that service 1 is in force, or remains.
+-- "0 none, 1 .., 2 .., 3 .. service 1 not in force, in SETUP not remaining, or the message not carried on; the first
+-- that applies." carried says that the message goes on and that service 1 is in force, or remains.
 abbrev pub notedOf : Seen → Bool → Note
 notedOf Seen.Absent carried = Note.Clear
 notedOf Seen.Malformed carried = Note.Malformed

@@ -103,7 +103,8 @@ moreIn Single.MoreData = true
 moreIn Single.Ready = false
 moreIn Single.NotReady = false
 
--- a message that the writer takes, once the host's numbers and the element are in range; and the limit on the element is
+-- a message that the writer takes, once the host's numbers and the element are in range; and the limit on the element
+-- is
 pub record Fits (limit : ℕ) (m : Message) : Type 0 where
   most : limit ≤ 131
   single : SingleIn (m .kind) (singleFor (m .level) (m .more))

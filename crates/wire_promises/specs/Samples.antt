@@ -20,7 +20,8 @@ use Rattle.call_cases.specs.Instances.{bare, served}
 use Rattle.call_promises.specs.Refusals.{sentTo}
 use Rattle.wire_promises.specs.Sending.{Host, answerTo, leftIn}
 
--- a run from a fresh record, the event that follows it, a side, and what is written for the message to that side: octets, then its element
+-- a run from a fresh record, the event that follows it, a side, and what is written for the message to that side:
+-- octets, then its element
 pub record Sample : Type 0 where
   pub before : List Offered
   pub event : Offered
@@ -73,7 +74,8 @@ allThree = setup 7 Request.Required Request.Preferred Request.Required 131 (elem
 abbrev pub spent : List Offered
 spent = served ++ (says Side.Called ∷ says Side.Called ∷ [])
 
--- SETUP with all three services; CONNECT that answers them; CALL PROCEEDING with a refusal; not ready, and ready; More data; a cause
+-- SETUP with all three services; CONNECT that answers them; CALL PROCEEDING with a refusal; not ready, and ready; More
+-- data; a cause
 abbrev pub samples : List Sample
 samples =
     record {

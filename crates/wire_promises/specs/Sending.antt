@@ -1,4 +1,5 @@
--- A message of a reply on the line: how the host lays it out for the writer, and that what is written reads back as the same.
+-- A message of a reply on the line: how the host lays it out for the writer, and that what is written reads back as the
+-- same.
 use Prim.Native.Nat.{ℕ, _≤_}
 use mathlib.Core.List.{List, []}
 use mathlib.Core.Bool.{Bool, true, cond}
@@ -78,8 +79,8 @@ wireOf h m =
       facility = facilitiesFor h (m .said);
     }
 
--- A message of a reply is offered to the writer with the event's element if it goes out in it, and with none otherwise: the writer's answer, and what
--- it leaves of a buffer.
+-- A message of a reply is offered to the writer with the event's element if it goes out in it, and with none otherwise:
+-- the writer's answer, and what it leaves of a buffer.
 abbrev pub answerTo : Host → Message → List ℕ → List ℕ → Wrote
 answerTo h m l b = answerOf (wireOf h m) (handedIn (Sent.Present m) l) b
 
@@ -96,13 +97,15 @@ pub record OnTheLine (h : Host) (m : Message) (l b : List ℕ) : Type 0 where
   -- where the event's element goes out, the element that is read is the event's own, whole
   pub own : (n : ℕ) → answerTo h m l b ≡ Wrote.To n → m .element ≡ true → userUserOf (take n (leftIn h m l b)) ≡ l
 
--- SENDING. For every record, event and element, every message of the reply, every header and invoke numbers in range, and every buffer.
+-- SENDING. For every record, event and element, every message of the reply, every header and invoke numbers in range,
+-- and every buffer.
 abbrev pub Sending : Type 0
 Sending =
     (c : Call) (e : Event) (l : List ℕ) (side : Side) (m : Message) → sentTo (stepOf c e l) side ≡ Sent.Present m →
     (h : Host) → HostInRange h → (b : List ℕ) → OnTheLine h m l b
 
--- APART. Where the three invoke numbers differ, two messages of replies that are written with the same octets say the same, and have the same element.
+-- APART. Where the three invoke numbers differ, two messages of replies that are written with the same octets say the
+-- same, and have the same element.
 pub record Different (h : Host) : Type 0 where
   pub one-two : h .one ≡ h .two → ⊥
   pub one-three : h .one ≡ h .three → ⊥

@@ -1,1 +1,2 @@
-// No code: what needs calls and octets both. `specs/` says how a message of a reply goes on the line, and has samples of it and all edges together; `proofs/` proves it.
+// No code: what needs calls and octets both, as statements in `specs/`, and their proofs: how a message of a reply goes
+// on the line, samples of it, and all of the paper's edges under one statement.

@@ -39,8 +39,8 @@ levelFits Single.MoreData = false
 levelFits Single.Ready = true
 levelFits Single.NotReady = true
 
--- "More data belongs to USER INFORMATION only, and a congestion level to CONGESTION CONTROL, where the writer demands it;
--- elsewhere the writer gives 7"
+-- "More data belongs to USER INFORMATION only, and a congestion level to CONGESTION CONTROL, where the writer demands
+-- it; elsewhere the writer gives 7"
 abbrev pub classFits : Class → Single → Bool
 classFits Class.Plain s = plainFits s
 classFits Class.Information s = moreFits s

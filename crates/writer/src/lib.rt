@@ -1,4 +1,4 @@
-// Writes a message into a buffer that the caller lends.
+// A whole message written into a buffer that the caller lends, or why it is not; numbers 6 and 7.
 ghost use mathlib.Core.Path.{_≡_};
 ghost use mathlib.Core.Bool.{true};
 ghost use Prim.Native.Nat.{_≤_, _+_};

@@ -1,4 +1,4 @@
-// How many octets a message has before its user-user element.
+// How many octets a message that is written has before its user-user element.
 ghost use mathlib.Core.Path.{_≡_};
 ghost use Prim.Native.Nat.{_≤_};
 ghost use lib.ListN.{length};

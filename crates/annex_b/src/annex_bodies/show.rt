@@ -14,7 +14,8 @@ fn length_octet(body: &[u8]) -> u8 {
     if n < 128 { n as u8 } else { 0 }
 }
 
-// A Facility body is read, as that of the one element of a FACILITY message: what stands in the column of its components.
+// A Facility body is read, as that of the one element of a FACILITY message: what stands in the column of its
+// components.
 pub(crate) fn reads_body(name: &[u8], body: &[u8], expected: &[u8]) {
     let mut m = [0u8; 64];
     let k = end_of(write_octets(&mut m, 0, b"\x08\x01\x01\x62\x1C"));

@@ -19,7 +19,8 @@ pub(crate) fn reads(name: &[u8], m: &[u8], expected: &[u8]) {
     case(name, found, check::same(found, expected));
 }
 
-// A message is written with its user-user element, where there is room for it; it is refused with 7 where no octets are expected.
+// A message is written with its user-user element, where there is room for it; it is refused with 7 where no octets are
+// expected.
 pub(crate) fn writes_message(name: &[u8], m: Message, user: &[u8], expected: &[u8]) {
     let mut buf = [0xEEu8; 280];
     let w = write_message(&mut buf, m, user);

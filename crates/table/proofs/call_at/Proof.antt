@@ -1,5 +1,6 @@
--- `table::call_at` meets its contract: a walk of its MIR, by hand. Where there is a record, the place of `t[i]` is computed, the slice is looked into, element i is taken out of the row, copied, and put back, and the token comes back. Where there is none, `Call::fresh` makes one.
--- Assumes nothing.
+-- `table::call_at` meets its contract: a walk of its MIR, by hand. Where there is a record, the place of `t[i]` is
+-- computed, the slice is looked into, element i is taken out of the row, copied, and put back, and the token comes
+-- back. Where there is none, `Call::fresh` makes one. Assumes nothing.
 use mathlib.Core.Path.{_≡_, refl, sym, _∙_}
 use Prim.Native.Nat.{ℕ, _*_, _<_, _^_}
 use mathlib.Core.List.{[], _∷_, List}

@@ -1,6 +1,7 @@
--- `table::calls_sound` meets its contract: a walk of its MIR, by hand. The loop's index has what is known where the loop's test is reached: that the table is sound exactly if it is from there on.
--- A turn calls `call_at`, then `first_from` for a later record of the same reference, and `at_fault` on the two, and returns, or goes on at the next index. The slice itself is never looked into here.
--- Assumes nothing.
+-- `table::calls_sound` meets its contract: a walk of its MIR, by hand. The loop's index has what is known where the
+-- loop's test is reached: that the table is sound exactly if it is from there on. A turn calls `call_at`, then
+-- `first_from` for a later record of the same reference, and `at_fault` on the two, and returns, or goes on at the next
+-- index. The slice itself is never looked into here. Assumes nothing.
 use mathlib.Core.Path.{_≡_, refl, sym, _∙_, ap, subst}
 use Prim.Native.Nat.{ℕ, _+_, _-_, _<_, _^_}
 use native.Mathlib.Omega.{arith}

@@ -1,5 +1,5 @@
--- `table::find` meets its contract: a walk of its MIR, by hand. What the slice reference owns goes to `first_from`, which looks from the first record on for a live record of the reference.
--- Assumes nothing.
+-- `table::find` meets its contract: a walk of its MIR, by hand. What the slice reference owns goes to `first_from`,
+-- which looks from the first record on for a live record of the reference. Assumes nothing.
 use mathlib.Core.Path.{_≡_, refl, _∙_}
 use Prim.Native.Nat.{ℕ, _<_, _^_}
 use mathlib.Core.List.{[], _∷_, List}

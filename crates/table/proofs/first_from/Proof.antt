@@ -1,6 +1,7 @@
--- `table::first_from` meets its contract: a walk of its MIR, by hand. The loop's index has what is known where the loop's test is reached: that what is to be found from there is what is to be found at all.
--- A turn copies what the slice reference owns, calls `call_at` and `meets`, and returns, or goes on at the next index. The slice itself is never looked into here.
--- Assumes nothing.
+-- `table::first_from` meets its contract: a walk of its MIR, by hand. The loop's index has what is known where the
+-- loop's test is reached: that what is to be found from there is what is to be found at all. A turn copies what the
+-- slice reference owns, calls `call_at` and `meets`, and returns, or goes on at the next index. The slice itself is
+-- never looked into here. Assumes nothing.
 use mathlib.Core.Path.{_≡_, refl, sym, _∙_, ap, subst}
 use Prim.Native.Nat.{ℕ, _+_, _-_, _<_, _^_}
 use native.Mathlib.Omega.{arith}

@@ -1,5 +1,5 @@
--- `table::place` meets its contract: a walk of its MIR, by hand. What the slice reference owns goes to `first_from`, which looks from the first record on for a free place.
--- Assumes nothing.
+-- `table::place` meets its contract: a walk of its MIR, by hand. What the slice reference owns goes to `first_from`,
+-- which looks from the first record on for a free place. Assumes nothing.
 use mathlib.Core.Path.{_≡_, refl, _∙_, ap}
 use Prim.Native.Nat.{ℕ, _+_}
 use mathlib.Core.Bool.{cond}

@@ -1,5 +1,6 @@
--- `rerun::work_off` meets its contract: a walk of its MIR, by hand. The local array is lent as a slice for a lifetime that is made for the call of `work_off_at`, and its cell comes back at the last list; the buffer is lent again for the same call.
--- Assumes nothing.
+-- `trace_run::work_off` meets its contract: a walk of its MIR, by hand. The local array is lent as a slice for a
+-- lifetime that is made for the call of `work_off_at`, and its cell comes back at the last list; the buffer is lent
+-- again for the same call. Assumes nothing.
 use mathlib.Core.Path.{_≡_, refl, sym, subst}
 use Prim.Native.Nat.{ℕ}
 use mathlib.Core.Bool.{Bool, false}
@@ -183,7 +184,8 @@ module _ {M : Type 1} (𝓤 : URA M) (H : Heap 𝓤) (A : Atoms 𝓤) (W : Given
           lft-new ! tt (λ ν₁. move ! (7 ∷ 4 ∷ []) $
           use2 W (later (some (λ (δ₁ : GName). ‵ (MutSlice (named 1) (ν₁ ∷ []) u8 .own (x₂ δ₁ zs) (s₂ ∷ [])) ⊛ ‵ (LentAgain u8 κ₁ (ν₁ ∷ []) q₁ γ₂ b₂ o₂ δ₁ zs)))) (lends-again u8 κ₁ (ν₁ ∷ []) q₁ γ₂ b₂ o₂ 𝓤 H A W (named 1) (named 1) zs) $ await ! tt $ pick ! (λ δ₁. split ! $
           move ! (2 ∷ 6 ∷ []) $ join ! $ move ! (6 ∷ 0 ∷ []) $ join ! $ move ! (5 ∷ 0 ∷ []) $ join ! $ move ! (8 ∷ 1 ∷ []) $ fjoin ! $ move ! (3 ∷ 0 ∷ []) $ fjoin ! $ move ! (1 ∷ 0 ∷ []) $ use2 W (raw (G 𝓤 H A at-mem run .pre (to-g l₆ ν δ ν₁ δ₁, tt))) (goes-g l₆ ν δ ν₁ δ₁) $
-          -- [the call's; the buffer's lender; the array's; true; three parameters'; the locals from 7 on, without the array's cell]
+          -- [the call's; the buffer's lender; the array's; true; three parameters'; the locals from 7 on, without the
+          -- array's cell]
           calls-lasts ! fm g.ended (g.clauses 𝓤 H A at-mem run) known-g (to-g l₆ ν δ ν₁ δ₁) tt (λ w ws. WorkedOff explained last ys es zs (ws .1 .1 .1 .1 .0) (soFar (ws .0) (w .used) (w .wrote) (w .ended)) × (w .more ≡ false)) (λ _ ws. id⊢ 𝓤 _) sval (LL.tells S.the-type S′.the-laws)
           (and-then ! (load ! (from ! (stop !)) (look ! 13 refl)) (and-then ! (load ! (from ! (stop !)) (look ! 28 refl)) (and-then ! (load ! (from ! (stop !)) (look ! 26 refl)) (and-then ! (load ! (from ! (stop !)) (look ! 24 refl)) (and-then ! (load ! (from ! (stop !)) (look ! 9 refl)) (no-more !)))))) (λ w ws ew isw.
           land ! (from ! (stop !)) (init ! 20 refl (LL.lawful S.the-type S′.the-laws 𝓤 H A W .typed w _ isw .0)) $

@@ -1,6 +1,7 @@
--- `rerun::work_off_at` meets its contract: a walk of its MIR, by hand. The table is lent for the whole piece: each turn shares it out for a call of `look` and lends it again for one of `commit`; the buffer is lent again for `decide`, which prints.
--- The loop's index has where the run stands, the records and the buffer there, and that these keep what the whole piece makes (`Running.Kept`).
--- Assumes nothing.
+-- `trace_run::work_off_at` meets its contract: a walk of its MIR, by hand. The table is lent for the whole piece: each
+-- turn shares it out for a call of `look` and lends it again for one of `commit`; the buffer is lent again for
+-- `decide`, which prints. The loop's index has where the run stands, the records and the buffer there, and that these
+-- keep what the whole piece makes (`Running.Kept`). Assumes nothing.
 use mathlib.Core.Path.{_≡_, refl, sym, _∙_, ap, subst}
 use Prim.Native.Nat.{ℕ, _+_, _<_, _≤_, _^_}
 use mathlib.Core.Bool.{Bool, true, false}
@@ -358,7 +359,8 @@ module _ {M : Type 1} (𝓤 : URA M) (H : Heap 𝓤) (A : Atoms 𝓤) (W : Given
           land ! (from ! (stop !)) (init ! 28 refl (LE.lawful K.the-type K′.the-laws 𝓤 H A W tt .typed r _ isr .0)) $
           use1 W (‵ (flft (ν ∷ []) fullShare) ⊛ ‵ ftrue) (id⊢ 𝓤 _) $ split ! $ lft-end ! tt $ move ! (0 ∷ 2 ∷ []) $
           use2 W (later (‵ (MutSlice (named 0) κ T.the-row .own (x γ (h .table)) (s ∷ [])) ⊛ ‵ (flft κ q))) (shared-back 𝓤 H A W T.the-row κ (ν ∷ []) q γ b o (length ys) (h .table) (h .kept .same) (named 0) (named 0) room) $ await ! tt $ split ! $ move ! (2 ∷ []) $ drop ! $
-          -- [what t owns; its token; the piece's token; what the piece's owns; what out owns; its token; the locals]: out is lent again for a lifetime of the call
+          -- [what t owns; its token; the piece's token; what the piece's owns; what out owns; its token; the locals]:
+          -- out is lent again for a lifetime of the call
           assigns ! (addr ! (from ! (fld ! refl (hop ! (look-in ! 38 (sub ! 0 refl (whole !))) (stop !))))) (from ! (stop !)) (init ! 14 refl (tt, tt)) $
           assigns ! (agg ! (and-then ! (load ! (from ! (stop !)) (look ! 14 refl)) (and-then ! (load ! (from ! (fld ! refl (stop !))) (look-in ! 38 (sub ! 1 refl (whole !)))) (no-more !)))) (from ! (stop !)) (init ! 12 refl (tt, (tt, (record { fits = room₂ .0 }, tt)))) $
           lft-new ! tt (λ ν₁. move ! (5 ∷ 6 ∷ []) $

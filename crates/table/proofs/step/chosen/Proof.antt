@@ -1,5 +1,5 @@
--- `choosing::choice::chosen` meets its contract: a walk of its MIR, by hand. What the slice reference owns is copied for each of `sound`, `find` and `place`, and `choose` is called on what they say.
--- Assumes nothing.
+-- `table::step::chosen` meets its contract: a walk of its MIR, by hand. What the slice reference owns is copied for
+-- each of `sound`, `find` and `place`, and `choose` is called on what they say. Assumes nothing.
 use mathlib.Core.Path.{_≡_, refl, _∙_, ap}
 use Prim.Native.Nat.{ℕ, _<_, _^_}
 use mathlib.Core.Bool.{Bool}

@@ -1,5 +1,6 @@
--- `exchange::step::commit` meets its contract: a walk of its MIR, by hand. Where the place lies within the table the borrow is opened, the record is put there, and the borrow is closed at the list with it; elsewhere nothing is touched.
--- Assumes nothing.
+-- `table::step::commit` meets its contract: a walk of its MIR, by hand. Where the place lies within the table the
+-- borrow is opened, the record is put there, and the borrow is closed at the list with it; elsewhere nothing is
+-- touched. Assumes nothing.
 use mathlib.Core.Path.{_≡_, refl, sym}
 use Prim.Native.Nat.{ℕ, _<_, _^_}
 use mathlib.Core.Bool.{Bool, true, false, not}

@@ -1,6 +1,6 @@
--- `exchange::step::look` meets its contract: a walk of its MIR, by hand. What the slice reference owns goes to `chosen`, and a copy of it, where a place was chosen, to `call_at`.
--- Up to the switch the walk holds for any choice. The switch goes by cases on the choice.
--- Assumes nothing.
+-- `table::step::look` meets its contract: a walk of its MIR, by hand. What the slice reference owns goes to `chosen`,
+-- and a copy of it, where a place was chosen, to `call_at`. Up to the switch the walk holds for any choice. The switch
+-- goes by cases on the choice. Assumes nothing.
 use mathlib.Core.Path.{_≡_, refl, sym, _∙_, ap, subst}
 use Prim.Native.Nat.{ℕ, _<_, _^_}
 use mathlib.Core.List.{[], _∷_, List}

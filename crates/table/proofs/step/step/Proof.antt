@@ -1,5 +1,6 @@
--- `exchange::step::step` meets its contract: a walk of its MIR, by hand. The `&mut` slice is shared out for a call of `look`, and lent again for a call of `commit`; each time it comes back. In between the plan is made by value.
--- Assumes nothing.
+-- `table::step::step` meets its contract: a walk of its MIR, by hand. The `&mut` slice is shared out for a call of
+-- `look`, and lent again for a call of `commit`; each time it comes back. In between the plan is made by value. Assumes
+-- nothing.
 use mathlib.Core.Path.{_≡_, refl, _∙_, ap}
 use Prim.Native.Nat.{ℕ, _<_, _^_}
 use mathlib.Core.List.{[], _∷_, List}
