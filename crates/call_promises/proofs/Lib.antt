@@ -15,3 +15,5 @@ pub mod Credit
 pub mod Granted
 pub mod MoreRights
 pub mod Required
+pub mod Parts
+pub mod Sends

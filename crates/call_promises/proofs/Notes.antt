@@ -112,7 +112,7 @@ lacking r k Request.Unasked = record { so = λ h. never h refl; back = λ x. abs
 lacking r k Request.Preferred = record { so = λ h. never h refl; back = λ x. absurd (let z : _≡_ {A = ℕ} 0 1 = cc (x .0) in omega arith) }
 lacking r k Request.Required = via (λ n. (refl, n)) (λ x. x .1) (neither _ (has r k))
 
-lacks : (r : Rights) (q : Requests) → Decides (lacksOf r q) (LacksRequired r q)
+pub lacks : (r : Rights) (q : Requests) → Decides (lacksOf r q) (LacksRequired r q)
 unfolding lacksOf
 lacks r q =
     via (⊎-elim (⊎-elim (λ x. inl x) (λ x. inr (inl x))) (λ x. inr (inr x)))
@@ -129,12 +129,12 @@ remains Request.Preferred false = refl
 remains Request.Required true = refl
 remains Request.Required false = refl
 
-setup-carries : (c : Call) (reference : ℕ) (r : Rights) (q : Requests) (s : Seen) → s ≡ Seen.Whole → Denies (setupCarriesOf r q s) (NotCarried c (Event.Setup reference r q))
+pub setup-carries : (c : Call) (reference : ℕ) (r : Rights) (q : Requests) (s : Seen) → s ≡ Seen.Whole → Denies (setupCarriesOf r q s) (NotCarried c (Event.Setup reference r q))
 unfolding setupCarriesOf standingsOf
 setup-carries c reference r q s e = rw (e, remains) (stops _ _ (lacks r q) (has r Service.One))
 
 -- ALERTING and CONNECT
-abbrev failsOf : Cause → Bool
+abbrev pub failsOf : Cause → Bool
 failsOf Cause.Absent = false
 failsOf (Cause.Value n) = true
 
@@ -142,7 +142,7 @@ first-fails : (a b : Cause) → failsOf (firstOf a b) ≡ (failsOf a || failsOf 
 first-fails Cause.Absent b = refl
 first-fails (Cause.Value n) b = refl
 
-any-fails : (f : Fates) → failsOf (failedOf f) ≡ (failsOf (failureOf (f .one)) || (failsOf (failureOf (f .two)) || failsOf (failureOf (f .three))))
+pub any-fails : (f : Fates) → failsOf (failedOf f) ≡ (failsOf (failureOf (f .one)) || (failsOf (failureOf (f .two)) || failsOf (failureOf (f .three))))
 unfolding failedOf
 any-fails f = rw (first-fails, first-fails) refl
 
@@ -197,7 +197,7 @@ due-comes true s g d = via (⊎-elim (λ i. inl i) (λ x. inr (d .so refl, x .0,
 due-comes false s g d = via (λ i. inl i) (⊎-elim (λ i. i) (λ x. never (d .back (x .0)) refl)) (in-force s)
 
 -- the note on an answering message
-carriesOf : Standing → Fates → Bool
+unfoldable pub carriesOf : Standing → Fates → Bool
 carriesOf s f = not (failsOf (failedOf f)) && inForceOf (settledOf s (f .one))
 
 module _ (c : Call) (kind : Kind) (next : Phase) (f : Fates) where
@@ -210,7 +210,7 @@ module _ (c : Call) (kind : Kind) (next : Phase) (f : Fates) where
   unfolding answeredOf carriesOf
   answered-note l = outcome-note _ (failedOf f)
 
-alerting-carries : (c : Call) (a : Answers) → Denies (carriesOf (c .standings .one) (alertingFatesOf (c .standings) a)) (NotCarried c (Event.Alerting a))
+pub alerting-carries : (c : Call) (a : Answers) → Denies (carriesOf (c .standings .one) (alertingFatesOf (c .standings) a)) (NotCarried c (Event.Alerting a))
 unfolding carriesOf alertingFatesOf
 alerting-carries c a =
     rw any-fails
@@ -222,7 +222,7 @@ alerting-carries c a =
 unanswered : Given.Silent ≡ Given.Accepted → ⊥
 unanswered e = let z : _≡_ {A = ℕ} 0 1 = cc in omega arith
 
-connect-carries : (c : Call) (a : Answers) → Denies (carriesOf (c .standings .one) (connectFatesOf (not (requestedOf (c .phase))) (c .standings) a)) (NotCarried c (Event.Connect a))
+pub connect-carries : (c : Call) (a : Answers) → Denies (carriesOf (c .standings .one) (connectFatesOf (not (requestedOf (c .phase))) (c .standings) a)) (NotCarried c (Event.Connect a))
 unfolding carriesOf connectFatesOf
 connect-carries c a =
     let r = requested (c .phase) in
@@ -259,7 +259,7 @@ closing-comes s Given.Accepted =
 closing-comes s Given.Rejected =
     via (λ i. inl i) (⊎-elim (λ i. i) (λ x. absurd (let z : _≡_ {A = ℕ} 0 1 = cc (x .1) in omega arith))) (in-force s)
 
-disconnect-comes : (side : Side) (s : Standing) (a : Answers) → Decides (inForceOf (closingStandingOf s (heardAnswersOf side a .one))) (Comes (side ≡ Side.Called) s (a .one))
+pub disconnect-comes : (side : Side) (s : Standing) (a : Answers) → Decides (inForceOf (closingStandingOf s (heardAnswersOf side a .one))) (Comes (side ≡ Side.Called) s (a .one))
 unfolding silentAnswers
 disconnect-comes Side.Calling s a =
     via (λ i. inl i) (⊎-elim (λ i. i) (λ x. absurd (let z : _≡_ {A = ℕ} 0 1 = cc (x .0) in omega arith))) (in-force s)

@@ -78,10 +78,10 @@ abbrev pub after : Rows → Rows
 after end = end
 after (row P k rows) = rows
 
-abbrev laterRows : Call → Event → List ℕ → Rows
+abbrev pub laterRows : Call → Event → List ℕ → Rows
 laterRows c e l = after (after (after (after (answerRows c e l))))
 
-abbrev lastRows : Call → Event → List ℕ → Rows
+abbrev pub lastRows : Call → Event → List ℕ → Rows
 lastRows c e l = after (after (after (laterRows c e l)))
 
 first-rows : (c : Call) (e : Event) (l : List ℕ) (a g : Bool) (r : Reply) → properOf e ≡ true → Denies a (Allowed e (c .phase) → ⊥) → Denies g (OutOfRange e) → First (laterRows c e l) (numberOf (r .answer)) → First (answerRows c e l) (numberOf (heardOf c (barOf c a g) r .answer))
@@ -256,7 +256,7 @@ module _ (c : Call) (l : List ℕ) (side : Side) where
   plain-rows What.Reject = answer-rows What.Reject (inr refl)
   plain-rows What.Required = inl (refl, refl)
 
-  say-rows : (what : What) → First (lastRows c (Event.Facility side what) l) (numberOf (facilityVerdictOf c side what))
+  pub say-rows : (what : What) → First (lastRows c (Event.Facility side what) l) (numberOf (facilityVerdictOf c side what))
   say-rows what =
       swap (row (barred what) 16 (row (shut what) 15 end)) (after (lastRows c (Event.Facility side what) l)) tells told
       (swap (row (shut what) 15 end) (after (after (lastRows c (Event.Facility side what) l))) tells told (swap end end tells told (λ x. x)))

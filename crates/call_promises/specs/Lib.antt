@@ -7,3 +7,4 @@ pub mod Sound
 pub mod Credit
 pub mod MoreRights
 pub mod Services
+pub mod Sends
