@@ -17,3 +17,4 @@ pub mod MoreRights
 pub mod Required
 pub mod Parts
 pub mod Sends
+pub mod Becomes

@@ -32,7 +32,7 @@ use Rattle.facility_rules.specs.Messages.{notGrantedOf}
 use Rattle.answering_rules.specs.declared.Fate.{Fate}
 use Rattle.answering_rules.specs.declared.Fates.{Fates}
 use Rattle.answering_rules.specs.Fates.{decidedOf, alertingFatesOf, connectFatesOf}
-use Rattle.answering_rules.specs.Effects.{settledOf, toldOf, declinedOf, failureOf, failedOf}
+use Rattle.answering_rules.specs.Effects.{settledOf, toldOf, declinedOf, failureOf, failedOf, inForceAfterOf}
 use Rattle.flow_meter.specs.declared.Meter.{Meter}
 use Rattle.flow_meter.specs.declared.passage.Passage.{Passage}
 use Rattle.flow_meter.specs.Passage.{countedOf, paidOf, markedOf, underThreeOf, passageOf}
@@ -301,6 +301,23 @@ module _ (c : Call) (e : Event) (k : Service) where
   pub failure : {f : Fate} → View (c .phase) e k now f → Failure (failureOf f)
   failure (idle n) = none (λ g x. n g (x .due))
   failure (asked g d u) = failure-due g d u (decision now g)
+
+-- what becomes of service 3: accepted, or not
+pub data Third (c : Call) (e : Event) : Fate → Type 0 where
+  three-accepted : Counts c e Service.Three Given.Accepted → Third c e Fate.Accepted
+  three-kept : {f : Fate} → (Counts c e Service.Three Given.Accepted → ⊥) → inForceAfterOf (c .meters) (c .rights .burst) f ≡ c .meters → Third c e f
+
+module _ (c : Call) (e : Event) where
+  third-due : (g : Given) → Due (c .phase) e Service.Three g → ((h : Given) → Due (c .phase) e Service.Three h → g ≡ h) → {f : Fate} → Decision (c .standings .three) g f → Third c e f
+  third-due g d u (stays n) = three-kept (λ x. n (x .asked)) refl
+  third-due g d u (grants o t) = three-accepted (record { due = rw t at d; asked = o })
+  third-due g d u (closes s n) = three-kept (λ x. n (u _ (x .due))) refl
+  third-due g d u (rejects s t) = three-kept (λ x. rejection-no (sym t ∙ u _ (x .due))) refl
+  third-due g d u (lacks s t) = three-kept (λ x. silence-no (sym t ∙ u _ (x .due))) refl
+
+  pub third-of : {f : Fate} → View (c .phase) e Service.Three (c .standings .three) f → Third c e f
+  third-of (idle n) = three-kept (λ x. n _ (x .due)) refl
+  third-of (asked g d u) = third-due g d u (decision (c .standings .three) g)
 
 -- the lowest failed required service
 pub data Outcome (c : Call) (e : Event) : Cause → Type 0 where

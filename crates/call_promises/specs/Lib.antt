@@ -8,3 +8,4 @@ pub mod Credit
 pub mod MoreRights
 pub mod Services
 pub mod Sends
+pub mod Becomes
