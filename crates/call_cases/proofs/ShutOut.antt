@@ -57,12 +57,12 @@ record Facts : Type 0 where
   fresh : freshCall .phase ≡ Phase.Fresh
   requested : opened .call .phase ≡ Phase.Requested
   required : opened .call .standings .one ≡ Standing.Required
-  active : runOf freshCall connected .phase ≡ Phase.Active
-  one : InForce (runOf freshCall connected .standings .one)
-  two : InForce (runOf freshCall connected .standings .two)
-  three : InForce (runOf freshCall connected .standings .three)
-  by-facility : InForce (runOf freshCall agreed .standings .three)
-  answered : Taken (opened .call) (Event.Alerting silent) []
+  active : runOf stepOf freshCall connected .phase ≡ Phase.Active
+  one : InForce (runOf stepOf freshCall connected .standings .one)
+  two : InForce (runOf stepOf freshCall connected .standings .two)
+  three : InForce (runOf stepOf freshCall connected .standings .three)
+  by-facility : InForce (runOf stepOf freshCall agreed .standings .three)
+  answered : Taken stepOf (opened .call) (Event.Alerting silent) []
   clearing : stepOf (opened .call) (Event.Alerting silent) [] .call .phase ≡ Phase.Clearing
 
 facts : Facts
@@ -94,7 +94,7 @@ all-asked Service.One = asked refl
 all-asked Service.Two = asked refl
 all-asked Service.Three = asked refl
 
-all-in-force : (k : Service) → InForce (standingFor (runOf freshCall connected .standings) k)
+all-in-force : (k : Service) → InForce (standingFor (runOf stepOf freshCall connected .standings) k)
 all-in-force Service.One = facts .one
 all-in-force Service.Two = facts .two
 all-in-force Service.Three = facts .three

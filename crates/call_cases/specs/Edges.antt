@@ -57,7 +57,7 @@ pub record Case : Type 0 where
 abbrev pub AllHold : List Case → Type 0
 AllHold [] = Unit {0}
 AllHold (k ∷ ks) =
-    (outcomeOf (stepOf (runOf freshCall (k .before)) (k .event .event) (k .event .element)) ≡ k .gives) × AllHold ks
+    (outcomeOf (stepOf (runOf stepOf freshCall (k .before)) (k .event .event) (k .event .element)) ≡ k .gives) × AllHold ks
 
 -- an element of n octets
 abbrev pub elementOf : ℕ → List ℕ

@@ -18,6 +18,7 @@ use Rattle.call_cases.specs.Edges.{elementOf, setup, silent, says}
 use Rattle.call_cases.specs.Instances.{bare, served, unserved}
 use Rattle.call_promises.specs.Handling.{handedTo}
 use Rattle.call_promises.specs.Services.{standingFor, Happens, Takes, Taken, Requires, Failing}
+use Rattle.call.specs.Step.{stepOf}
 
 abbrev pub gives : Given → Given → Given → Answers
 gives one two three = record { one = one; two = two; three = three }
@@ -62,7 +63,7 @@ pub record Hand : Type 0 where
 abbrev pub AllHanded : List Hand → Type 0
 AllHanded [] = Unit {0}
 AllHanded (h ∷ hs) =
-    (handedTo (runOf freshCall (h .before)) (h .event .event) (h .event .element) (h .to) ≡ h .event .element) × AllHanded hs
+    (handedTo stepOf (runOf stepOf freshCall (h .before)) (h .event .event) (h .event .element) (h .to) ≡ h .event .element) × AllHanded hs
 
 abbrev pub hands : List Hand
 hands =
@@ -91,10 +92,10 @@ agreed =
 -- HELD. A call is Active with every service in force that was required; a required service fails, and the call is
 -- Clearing.
 pub record Held : Type 0 where
-  pub asked : (k : Service) → Happens (Takes (Requires k)) connected
-  pub active : runOf freshCall connected .phase ≡ Phase.Active
-  pub in-force : (k : Service) → InForce (standingFor (runOf freshCall connected .standings) k)
-  pub by-facility : InForce (runOf freshCall agreed .standings .three)
-  pub taken : Taken (runOf freshCall asking) (Event.Alerting silent) []
-  pub failing : Failing (runOf freshCall asking) (Event.Alerting silent) Phase.Clearing
-  pub clearing : runOf freshCall (asking ++ (bare (Event.Alerting silent) ∷ [])) .phase ≡ Phase.Clearing
+  pub asked : (k : Service) → Happens (Takes stepOf (Requires k)) connected
+  pub active : runOf stepOf freshCall connected .phase ≡ Phase.Active
+  pub in-force : (k : Service) → InForce (standingFor (runOf stepOf freshCall connected .standings) k)
+  pub by-facility : InForce (runOf stepOf freshCall agreed .standings .three)
+  pub taken : Taken stepOf (runOf stepOf freshCall asking) (Event.Alerting silent) []
+  pub failing : Failing (runOf stepOf freshCall asking) (Event.Alerting silent) Phase.Clearing
+  pub clearing : runOf stepOf freshCall (asking ++ (bare (Event.Alerting silent) ∷ [])) .phase ≡ Phase.Clearing

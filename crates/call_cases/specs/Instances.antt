@@ -117,7 +117,7 @@ Instances = AllHold instances
 
 -- a run that ends live, as the promise of sound records asks
 abbrev pub Reached : Type 0
-Reached = Live (runOf freshCall served .phase)
+Reached = Live (runOf stepOf freshCall served .phase)
 
 -- a record that no run leads to: one credit more than X
 abbrev pub broken : Call

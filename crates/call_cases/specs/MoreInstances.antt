@@ -16,6 +16,7 @@ use Rattle.call_cases.specs.Edges.{elementOf, setup, silent}
 use Rattle.call_cases.specs.Instances.{bare}
 use Rattle.call_promises.specs.Credit.{Purse, accountOf, unopened}
 use Rattle.call_promises.specs.MoreRights.{withRights, NoLess, Handed, handedOf}
+use Rattle.call.specs.Step.{stepOf}
 
 abbrev pub rightsOf : ℕ → Bool → Bool → ℕ → ℕ → ℕ → Rights
 rightsOf services late leave limit burst refill =
@@ -55,8 +56,8 @@ pub record Pair : Type 0 where
 
 pub record Meets (p : Pair) : Type 0 where
   pub premises : NoLess (p .first) (p .second)
-  pub first : handedOf freshCall (withRights (p .first) (p .events)) ≡ p .inFirst
-  pub second : handedOf freshCall (withRights (p .second) (p .events)) ≡ p .inSecond
+  pub first : handedOf stepOf freshCall (withRights (p .first) (p .events)) ≡ p .inFirst
+  pub second : handedOf stepOf freshCall (withRights (p .second) (p .events)) ≡ p .inSecond
 
 -- the calling side sends while it rings and four times while connected
 abbrev pub talk : List Offered
@@ -131,7 +132,7 @@ lastTo h [] = h .called
 lastTo h (g ∷ gs) = lastTo g gs
 
 abbrev pub lastIn : Rights → List Offered → List ℕ
-lastIn r os = lastTo neither (handedOf freshCall (withRights r os))
+lastIn r os = lastTo neither (handedOf stepOf freshCall (withRights r os))
 
 -- every premise but the one is met, and the element is not handed over in the second run
 pub record GoesWrong (w : Without) : Type 0 where

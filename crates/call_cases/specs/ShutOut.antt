@@ -10,9 +10,7 @@ use Rattle.call.specs.declared.Call.{Call}
 use Rattle.event.specs.declared.Event.{Event}
 use Rattle.call.specs.declared.reply.Reply.{Reply}
 use Rattle.call.specs.Step.{stepOf}
-
-abbrev pub Core : Type 0
-Core = Call → Event → List ℕ → Reply
+use Rattle.call_promises.specs.Numbers.{Core}
 
 -- the contract of a step: for every record, event and element this reply and no other
 abbrev pub Meets : Core → Type 0

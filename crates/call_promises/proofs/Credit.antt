@@ -40,7 +40,7 @@ use Rattle.setup_rules.specs.Requests.{askedStandingOf, firstStandingOf, lackin
 use Rattle.answering_rules.specs.Fates.{decidedOf, alertingFatesOf, connectFatesOf}
 use Rattle.answering_rules.specs.Effects.{settledOf, settlesOf, failureOf, failedOf, inForceAfterOf}
 use Rattle.answer.specs.Answer.{numberOf, takenOf}
-use Rattle.facility_rules.specs.Asking.{asksOf, mayAskOf, toRequestOf, toAnswerOf}
+use Rattle.facility_rules.specs.Asking.{nobodyAsks, asksOf, mayAskOf, toRequestOf, toAnswerOf}
 use Rattle.phases.specs.Phase.{requestedOf, connectableOf, talkingOf, activeOf, liveOf}
 use Rattle.information_rules.specs.Serving.{servesTwoOf, servesThreeOf}
 use Rattle.information_rules.specs.Messages.{passageAnswerOf}
@@ -168,7 +168,7 @@ asked-idle Request.Required true = refl
 asked-idle Request.Required false = refl
 
 setup-agrees : (reference : ℕ) (r : Rights) (q : Requests) (seen : Seen) → Agrees (begins r (remaining r q) (cond (lacks r q) Phase.Ended Phase.Requested)) (proceedsOf reference r q seen .call)
-unfolding proceedsOf filledOf setupPhaseOf standingsOf emptyMeters emptyOf
+unfolding proceedsOf filledOf setupPhaseOf standingsOf emptyMeters emptyOf nobodyAsks
 setup-agrees reference r q seen =
     record {
       requests = remaining r q;
@@ -416,19 +416,27 @@ module _ (c : Call) (q : Requests) (d : Due (c .phase) q (c .standings)) where
   either false u b x e g = rw (← e) kept
 
   facility-agrees : (side : Side) (what : What) → activeOf (c .phase) ≡ true → Agrees (agrees a side what) (passesFacilityOf c side what (facilityVerdictOf c side what) .call)
-  unfolding passesFacilityOf replyOf facilityVerdictOf facilityCallOf grantsOf grantedOf
-  facility-agrees side What.Preferred h =
-      let shut = inForceOf (c .standings .three) || asksOf (c .asking) side in
-      either _ _ _ (facilityCallOf c side What.Preferred) (ap (λ b. b && not shut) (may-same (c .rights) side) ∙ request-taken (mayAskOf (c .rights) side) shut)
+  unfolding passesFacilityOf replyOf facilityVerdictOf facilityCallOf grantsOf grantedOf nobodyAsks
+  facility-agrees Side.Calling What.Preferred h =
+      let shut = inForceOf (c .standings .three) || asksOf (c .asking) Side.Calling in
+      either _ _ _ (facilityCallOf c Side.Calling What.Preferred) (ap (λ b. b && not shut) (may-same (c .rights) Side.Calling) ∙ request-taken (mayAskOf (c .rights) Side.Calling) shut)
       (record { requests = q; same = refl; due = d })
-  facility-agrees side What.Accept h =
-      rw (other-same side)
-      (either _ _ _ (facilityCallOf c side What.Accept) (answer-taken (inForceOf (c .standings .three)) (asksOf (c .asking) (peerOf side)))
-      (record { requests = q; same = refl; due = let e = active (c .phase) .so h in not-due (c .phase) q _ (rw e refl) (rw e refl) }))
-  facility-agrees side What.Reject h =
-      rw (other-same side)
-      (either _ _ _ (facilityCallOf c side What.Reject) (answer-taken (inForceOf (c .standings .three)) (asksOf (c .asking) (peerOf side)))
-      (record { requests = q; same = refl; due = d }))
+  facility-agrees Side.Called What.Preferred h =
+      let shut = inForceOf (c .standings .three) || asksOf (c .asking) Side.Called in
+      either _ _ _ (facilityCallOf c Side.Called What.Preferred) (ap (λ b. b && not shut) (may-same (c .rights) Side.Called) ∙ request-taken (mayAskOf (c .rights) Side.Called) shut)
+      (record { requests = q; same = refl; due = d })
+  facility-agrees Side.Calling What.Accept h =
+      either _ _ _ (facilityCallOf c Side.Calling What.Accept) (answer-taken (inForceOf (c .standings .three)) (asksOf (c .asking) (peerOf Side.Calling)))
+      (record { requests = q; same = refl; due = let e = active (c .phase) .so h in not-due (c .phase) q _ (rw e refl) (rw e refl) })
+  facility-agrees Side.Called What.Accept h =
+      either _ _ _ (facilityCallOf c Side.Called What.Accept) (answer-taken (inForceOf (c .standings .three)) (asksOf (c .asking) (peerOf Side.Called)))
+      (record { requests = q; same = refl; due = let e = active (c .phase) .so h in not-due (c .phase) q _ (rw e refl) (rw e refl) })
+  facility-agrees Side.Calling What.Reject h =
+      either _ _ _ (facilityCallOf c Side.Calling What.Reject) (answer-taken (inForceOf (c .standings .three)) (asksOf (c .asking) (peerOf Side.Calling)))
+      (record { requests = q; same = refl; due = d })
+  facility-agrees Side.Called What.Reject h =
+      either _ _ _ (facilityCallOf c Side.Called What.Reject) (answer-taken (inForceOf (c .standings .three)) (asksOf (c .asking) (peerOf Side.Called)))
+      (record { requests = q; same = refl; due = d })
   facility-agrees side What.Required h = kept
 
   closes-agrees : (one : Standing) → Agrees (clears a) (closedCallOf c one)
@@ -473,12 +481,12 @@ step-agrees : (a : Account) (c : Call) (e : Event) (l : List ℕ) → Agrees a c
 step-agrees a c e l g w = rw (g .same) (step-told c (g .requests) (g .due) (sound-by c _ refl w) e l)
 
 -- runs
-run-agrees : (a : Account) (c : Call) (os : List Offered) → Agrees a c → (Live (c .phase) → InRangeCall c) → Agrees (accountOf a os) (runOf c os)
+run-agrees : (a : Account) (c : Call) (os : List Offered) → Agrees a c → (Live (c .phase) → InRangeCall c) → Agrees (accountOf a os) (runOf stepOf c os)
 run-agrees a c [] g w = g
 run-agrees a c (o ∷ os) g w = run-agrees _ _ os (step-agrees a c (o .event) (o .element) g w) (step-in c (o .event) (o .element) w)
 
-after-run : (os : List Offered) → Agrees (accountOf unopened os) (runOf freshCall os)
-unfolding freshCall noRights noServices emptyMeters emptyOf
+after-run : (os : List Offered) → Agrees (accountOf unopened os) (runOf stepOf freshCall os)
+unfolding freshCall noRights noServices emptyMeters emptyOf nobodyAsks
 after-run os =
     run-agrees unopened freshCall os (record { requests = unopened .asked; same = refl; due = not-due Phase.Fresh _ _ refl refl })
     (λ v. never (live Phase.Fresh .back v) refl)
@@ -487,7 +495,7 @@ balanced : (a : Account) (c : Call) (side : Side) → Agrees a c → Balanced c 
 balanced a c Side.Calling g = rw (g .same) (record { credit = refl; count = refl })
 balanced a c Side.Called g = rw (g .same) (record { credit = refl; count = refl })
 
-pub credit : Credit
+pub credit : Credit stepOf
 credit os side = balanced _ _ side (after-run os)
 
 -- a message that is answered 0
@@ -537,7 +545,7 @@ module _ (c : Call) (q : Requests) (more : Bool) where
       view (through s h k) = element-covers side _ h
       view (barred x) = λ z. absurd (bar-not-taken x z)
 
-pub covered : Covered
+pub covered : Covered stepOf
 covered os side more l z =
     let g = after-run os in
-    rw (g .same) (covers (runOf freshCall os) (g .requests) more side l z)
+    rw (g .same) (covers (runOf stepOf freshCall os) (g .requests) more side l z)

@@ -334,8 +334,8 @@ traces c k Event.CallProceeding l = same c k _ l _ _ refl refl refl
 traces c k Event.CongestionControl l = same c k _ l _ _ refl refl refl
 
 -- what holds after a run and not of a fresh record came with an event of the run
-module _ (Q : Call → Type 0) (P : List Offered → Offered → Type 0) (steps : (b : List Offered) (o : Offered) → Q (stepOf (runOf freshCall b) (o .event) (o .element) .call) → Q (runOf freshCall b) ⊎ P b o) where
-  came-with : (b os : List Offered) → Q (runOf freshCall (b ++ os)) → Q (runOf freshCall b) ⊎ Happens P (b ++ os)
+module _ (Q : Call → Type 0) (P : List Offered → Offered → Type 0) (steps : (b : List Offered) (o : Offered) → Q (stepOf (runOf stepOf freshCall b) (o .event) (o .element) .call) → Q (runOf stepOf freshCall b) ⊎ P b o) where
+  came-with : (b os : List Offered) → Q (runOf stepOf freshCall (b ++ os)) → Q (runOf stepOf freshCall b) ⊎ Happens P (b ++ os)
   came-with b [] w = inl (rw append-nil at w)
   came-with b (o ∷ os) w =
       ⊎-elim
@@ -345,7 +345,7 @@ module _ (Q : Call → Type 0) (P : List Offered → Offered → Type 0) (steps 
       (λ h. inr (rw (append-assoc b (o ∷ []) os) at h))
       (came-with (b ++ (o ∷ [])) os (rw (append-assoc b (o ∷ []) os) w))
 
-  happens : (Q freshCall → ⊥) → (os : List Offered) → Q (runOf freshCall os) → Happens P os
+  happens : (Q freshCall → ⊥) → (os : List Offered) → Q (runOf stepOf freshCall os) → Happens P os
   happens n os w = ⊎-elim (λ q. absurd (n q)) (λ h. h) (came-with [] os w)
 
 fresh-unknown : (k : Service) → Known freshCall k → ⊥
@@ -354,29 +354,29 @@ fresh-unknown Service.One w = ⊎-elim (λ x. x) (λ x. x) w
 fresh-unknown Service.Two w = ⊎-elim (λ x. x) (λ x. x) w
 fresh-unknown Service.Three w = ⊎-elim (λ x. x) (nobody Service.Three) w
 
-asked-in : (k : Service) (os : List Offered) → Known (runOf freshCall os) k → Happens (Takes (AsksFor k)) os
+asked-in : (k : Service) (os : List Offered) → Known (runOf stepOf freshCall os) k → Happens (Takes stepOf (AsksFor k)) os
 asked-in k os w =
-    happens (λ c. Known c k) (Takes (AsksFor k))
-    (λ b o x. ⊎-elim (λ y. inl (y .0)) (λ y. inr (y .0, y .1)) (traces (runOf freshCall b) k (o .event) (o .element) .asked x))
+    happens (λ c. Known c k) (Takes stepOf (AsksFor k))
+    (λ b o x. ⊎-elim (λ y. inl (y .0)) (λ y. inr (y .0, y .1)) (traces (runOf stepOf freshCall b) k (o .event) (o .element) .asked x))
     (fresh-unknown k) os w
 
 -- the rights have what is asked for
-run-has : (k : Service) (c : Call) (os : List Offered) → (Known c k → Has (c .rights) k) → Known (runOf c os) k → Has (runOf c os .rights) k
+run-has : (k : Service) (c : Call) (os : List Offered) → (Known c k → Has (c .rights) k) → Known (runOf stepOf c os) k → Has (runOf stepOf c os .rights) k
 run-has k c [] h = h
 run-has k c (o ∷ os) h =
     run-has k _ os
     (λ w. ⊎-elim (λ y. rw (y .1) (h (y .0))) (λ y. y .2) (traces c k (o .event) (o .element) .asked w))
 
-pub granted : Granted
+pub granted : Granted stepOf
 granted os k i =
     record {
       had = run-has k freshCall os (λ w. absurd (fresh-unknown k w)) (inl (in-force-stands _ i));
       accepted =
           happens (λ c. InForce (standingFor (c .standings) k))
-          (λ b o. Takes (Accepts k) b o × Happens (Takes (AsksFor k)) (b ++ (o ∷ [])))
+          (λ b o. Takes stepOf (Accepts k) b o × Happens (Takes stepOf (AsksFor k)) (b ++ (o ∷ [])))
           (λ b o x.
           ⊎-elim (λ y. inl y)
           (λ y. inr ((y .0, y .1), asked-in k (b ++ (o ∷ [])) (rw run-append (inl (in-force-stands _ x)))))
-          (traces (runOf freshCall b) k (o .event) (o .element) .came x))
+          (traces (runOf stepOf freshCall b) k (o .event) (o .element) .came x))
           (λ x. fresh-unknown k (inl (in-force-stands _ x))) os i;
     }

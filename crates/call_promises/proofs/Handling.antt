@@ -269,7 +269,7 @@ module _ (c : Call) (e : Event) (l : List ℕ) where
   none Side.Calling Side.Called p b = plain-empty (stepOf c e l .calling) l b
   none Side.Called Side.Calling p b = plain-empty (stepOf c e l .called) l b
 
-  entire : (to : Side) (m : Message) → sentTo (stepOf c e l) to ≡ Sent.Present m → m .element ≡ true → Goes e to (m .kind) (m .more) → WellFormed l → length l ≤ limitFor c e → Plain (sentTo (stepOf c e l) (other to)) → Whole c e l to
+  entire : (to : Side) (m : Message) → sentTo (stepOf c e l) to ≡ Sent.Present m → m .element ≡ true → Goes e to (m .kind) (m .more) → WellFormed l → length l ≤ limitFor c e → Plain (sentTo (stepOf c e l) (other to)) → Whole stepOf c e l to
   entire to m h t g w k b =
       record {
         own = rw (h, t) refl;
@@ -281,30 +281,30 @@ module _ (c : Call) (e : Event) (l : List ℕ) where
         alone = plain-empty (sentTo (stepOf c e l) (other to)) l b;
       }
 
-  way-out : (to : Side) {s : Sent} → sentTo (stepOf c e l) to ≡ s → OnTheWay to s → Plain (sentTo (stepOf c e l) (other to)) → Out c e l
+  way-out : (to : Side) {s : Sent} → sentTo (stepOf c e l) to ≡ s → OnTheWay to s → Plain (sentTo (stepOf c e l) (other to)) → Out stepOf c e l
   way-out to h (plain p f) b =
       record { unnoted = λ x z n. absurd (f (x, z) n); dropped = λ _ side. none side to (rw h p) b }
   way-out to h (goes {m} t g w k u n) b =
       record { unnoted = λ _ _ _. (to, entire to m h t g w k b); dropped = λ x. absurd (x n) }
 
-  way-whole : (side : Side) {s : Sent} → sentTo (stepOf c e l) side ≡ s → OnTheWay side s → Plain (sentTo (stepOf c e l) (other side)) → (handedIn s l ≡ [] → ⊥) → Whole c e l side × Under c l (stepOf c e l .call) e
+  way-whole : (side : Side) {s : Sent} → sentTo (stepOf c e l) side ≡ s → OnTheWay side s → Plain (sentTo (stepOf c e l) (other side)) → (handedIn s l ≡ [] → ⊥) → Whole stepOf c e l side × Under c l (stepOf c e l .call) e
   way-whole side {s} h (plain p f) b n = absurd (n (plain-empty s l p))
   way-whole side h (goes {m} t g w k u _) b n = (entire side m h t g w k b, u)
 
-  reaches : (side to : Side) → OnTheWay to (sentTo (stepOf c e l) to) → Plain (sentTo (stepOf c e l) (other to)) → (handedIn (sentTo (stepOf c e l) side) l ≡ [] → ⊥) → Whole c e l side × Under c l (stepOf c e l .call) e
+  reaches : (side to : Side) → OnTheWay to (sentTo (stepOf c e l) to) → Plain (sentTo (stepOf c e l) (other to)) → (handedIn (sentTo (stepOf c e l) side) l ≡ [] → ⊥) → Whole stepOf c e l side × Under c l (stepOf c e l .call) e
   reaches Side.Calling Side.Calling w b n = way-whole Side.Calling refl w b n
   reaches Side.Called Side.Called w b n = way-whole Side.Called refl w b n
   reaches Side.Calling Side.Called w b n = absurd (n (plain-empty (stepOf c e l .calling) l b))
   reaches Side.Called Side.Calling w b n = absurd (n (plain-empty (stepOf c e l .called) l b))
 
-handled : (c : Call) (e : Event) (l : List ℕ) (side : Side) → (handedIn (sentTo (stepOf c e l) side) l ≡ [] → ⊥) → Whole c e l side × Under c l (stepOf c e l .call) e
+handled : (c : Call) (e : Event) (l : List ℕ) (side : Side) → (handedIn (sentTo (stepOf c e l) side) l ≡ [] → ⊥) → Whole stepOf c e l side × Under c l (stepOf c e l .call) e
 handled c e l side = let p = passes c e l in reaches c e l side (p .to) (p .on) (p .back)
 
-pub unaltered : Unaltered
+pub unaltered : Unaltered stepOf
 unaltered c e l side n = handled c e l side n .0
 
-pub goes-out : GoesOut
+pub goes-out : GoesOut stepOf
 goes-out c e l = let p = passes c e l in way-out c e l (p .to) refl (p .on) (p .back)
 
-pub under-a-service : UnderAService
+pub under-a-service : UnderAService stepOf
 under-a-service c e l side n = handled c e l side n .1

@@ -670,7 +670,7 @@ kept : (s t : Sent) (l : List ℕ) → Gives s t → Kept (handedIn s l) (handed
 kept s t l f h = handed-is t l ∙ (kept-cond _ _ l f (λ e. h (handed-is s l ∙ e)) ∙ sym (handed-is s l))
 
 module _ (r r' : Rights) (n : NoLess r r') where
-  runs : (c d : Call) (os : List Offered) → Good c → Good d → Stage c d → NoFewer (handedOf c (withRights r os)) (handedOf d (withRights r' os)) × InStep (runOf c (withRights r os)) (runOf d (withRights r' os))
+  runs : (c d : Call) (os : List Offered) → Good c → Good d → Stage c d → NoFewer (handedOf stepOf c (withRights r os)) (handedOf stepOf d (withRights r' os)) × InStep (runOf stepOf c (withRights r os)) (runOf stepOf d (withRights r' os))
   runs c d [] w w' st = (end, in-step c d st)
   runs c d (o ∷ os) w w' st =
       let p = stepOf c (eventWith r (o .event)) (o .element) in
@@ -687,5 +687,5 @@ fresh-stage : Stage freshCall freshCall
 unfolding freshCall
 fresh-stage = early refl refl
 
-pub more-rights : MoreRights
+pub more-rights : MoreRights stepOf
 more-rights r r' n os = runs r r' n freshCall freshCall os fresh-good fresh-good fresh-stage

@@ -320,5 +320,5 @@ note-first c Event.Tick l = bare-note c Event.Tick l (heard-clear c Event.Tick l
 note-first c Event.CallProceeding l = bare-note c Event.CallProceeding l refl tt
 note-first c Event.CongestionControl l = bare-note c Event.CongestionControl l refl tt
 
-pub notes : Notes
+pub notes : Notes stepOf
 notes c e l = exactly (noteRows c e l) _ (note-first c e l)

@@ -293,5 +293,5 @@ answer-first c Event.Tick l =
 answer-first c Event.CallProceeding l = not-an-event-rows c _ l _ refl (unsound c) (inl refl)
 answer-first c Event.CongestionControl l = not-an-event-rows c _ l _ refl (unsound c) (inr refl)
 
-pub answers : Answers
+pub answers : Answers stepOf
 answers c e l = exactly (answerRows c e l) _ (answer-first c e l)

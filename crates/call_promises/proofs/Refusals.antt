@@ -36,7 +36,7 @@ use Rattle.call.specs.Information.{metersOf, informationPassageOf, carriedOf, w
 use Rattle.call.specs.Reply.{refusedOf, replyOf}
 use Rattle.call.specs.Setup.{proceedsOf, setupOf}
 use Rattle.call.specs.Sound.{soundOf}
-use Rattle.call.specs.Step.{notAnEventOf}
+use Rattle.call.specs.Step.{notAnEventOf, stepOf}
 use Rattle.call.specs.Tick.{passesTickOf, tickOf}
 use Rattle.call_promises.specs.Numbers.{ServesThree, sends, tells}
 use Rattle.call_promises.specs.Refusals.{Unmoved, Marks, Drops, Rejects, Refusal, Refusals}
@@ -201,7 +201,7 @@ unfolding notAnEventOf
 not-an-event-fair c e true h = rw h (refused-fair c e _ _ (omega arith) (omega arith))
 not-an-event-fair c e false h = rw h (refused-fair c e _ _ (omega arith) (omega arith))
 
-pub refusals : Refusals
+pub refusals : Refusals stepOf
 unfolding setupOf proceedsOf alertingOf connectOf informationOf facilityOf disconnectOf passedOnOf replyOf releaseCompleteOf endsOf tickOf passesTickOf
 refusals c (Event.Setup reference rights q) l = heard-fair c _ _ _ _ (heard c _ _ _) (taken-fair c _ _ refl)
 refusals c (Event.Alerting answers) l = heard-fair c _ _ _ _ (heard c _ _ _) (taken-fair c _ _ (answered-taken c _ _ _ l))

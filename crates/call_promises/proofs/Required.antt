@@ -50,7 +50,7 @@ use Rattle.call_promises.proofs.Phases.{fresh, requested, connectable, 
 use Rattle.call_promises.proofs.Conditions.{has}
 
 -- a run goes on from where it came to
-pub run-append : (c : Call) (a b : List Offered) → runOf c (a ++ b) ≡ runOf (runOf c a) b
+pub run-append : (c : Call) (a b : List Offered) → runOf stepOf c (a ++ b) ≡ runOf stepOf (runOf stepOf c a) b
 run-append c [] b = refl
 run-append c (o ∷ a) b = run-append _ a b
 
@@ -217,7 +217,7 @@ step-due k c Event.CallProceeding l w = w
 step-due k c Event.CongestionControl l w = w
 
 -- a run
-run-due : (k : Service) (c : Call) (os : List Offered) → DueIn k c → DueIn k (runOf c os)
+run-due : (k : Service) (c : Call) (os : List Offered) → DueIn k c → DueIn k (runOf stepOf c os)
 run-due k c [] w = w
 run-due k c (o ∷ os) w = run-due k _ os (step-due k c (o .event) (o .element) w)
 
@@ -226,16 +226,16 @@ unfolding refusedOf
 when-taken P c a g r (through _ _ _) t w = w
 when-taken P c a g r (barred x) t w = absurd (bar-not-taken x t)
 
-requires-due : (k : Service) (c : Call) (e : Event) (l : List ℕ) → Taken c e l → Requires k e l → DueIn k (stepOf c e l .call)
+requires-due : (k : Service) (c : Call) (e : Event) (l : List ℕ) → Taken stepOf c e l → Requires k e l → DueIn k (stepOf c e l .call)
 unfolding setupOf
 requires-due k c e l t (asked {reference} {rights} {q} h) =
     when-taken (λ r. DueIn k (r .call)) c _ _ _ (heard c _ _ _) t (setup-due reference rights q _ k h)
 
-pub required : Required
+pub required : Required stepOf
 required os k h e =
-    let c = runOf freshCall (h .before) in
+    let c = runOf stepOf freshCall (h .before) in
     let w = run-due k _ (h .after) (requires-due k c (h .event .event) (h .event .element) (h .holds .0) (h .holds .1)) in
-    let q : DueIn k (runOf freshCall os) = rw (h .split, run-append) w in
+    let q : DueIn k (runOf stepOf freshCall os) = rw (h .split, run-append) w in
     moved k _ e q
 
 -- a required service that fails
@@ -287,7 +287,7 @@ module _ (c : Call) (a : Answers) (l : List ℕ) where
 phase-after : (p : Phase) (c : Call) (a g : Bool) (r : Reply) {s : Reply} → Heard c a g r s → numberOf (s .answer) ≡ 0 → r .call .phase ≡ p → s .call .phase ≡ p
 phase-after p = when-taken (λ r. r .call .phase ≡ p)
 
-pub failed : Failed
+pub failed : Failed stepOf
 unfolding setupOf alertingOf connectOf
 failed c e l p t (setup x) = phase-after _ c _ _ _ (heard c _ _ _) t (setup-fails _ _ _ _ x)
 failed c e l p t (alerting x) = phase-after _ c _ _ _ (heard c _ _ _) t (alerting-fails c _ l x)

@@ -65,7 +65,7 @@ step-in c Event.CallProceeding l w = w
 step-in c Event.CongestionControl l w = w
 
 -- a run
-pub run-in : (c : Call) (os : List Offered) → Good c → Good (runOf c os)
+pub run-in : (c : Call) (os : List Offered) → Good c → Good (runOf stepOf c os)
 run-in c [] w = w
 run-in c (o ∷ os) w = run-in _ os (step-in c (o .event) (o .element) w)
 
@@ -73,7 +73,7 @@ fresh-in : Good freshCall
 unfolding freshCall
 fresh-in v = never (live Phase.Fresh .back v) refl
 
-pub sound : Sound
+pub sound : Sound stepOf
 sound os = run-in freshCall os fresh-in
 
 -- a number that stands in no row is never given
@@ -90,8 +90,8 @@ twenty-five : (c : Call) (e : Event) (l : List ℕ) → First (answerRows c e l)
 twenty-five c e l (inl f) = f .0
 twenty-five c e l (inr f) = absurd (lacks (after (answerRows c e l)) 25 (omega arith) (f .1))
 
-pub never-unsound : NeverUnsound
+pub never-unsound : NeverUnsound stepOf
 never-unsound os e l h =
-    let c = runOf freshCall os in
+    let c = runOf stepOf freshCall os in
     let u = twenty-five c e l (answers c e l 25 .0 h) in
     u .1 (sound os (u .0))

@@ -21,14 +21,16 @@ use Rattle.facility_rules.specs.declared.What.{What}
 use Rattle.phases.specs.declared.Phase.{Phase}
 use Rattle.sent.specs.declared.side.Side.{Side}
 use Rattle.answer.specs.Answer.{numberOf}
-use Rattle.facility_rules.specs.Asking.{nobodyAsks, asksOf, withAskOf}
 use Rattle.phases.specs.Phase.{freshOf, requestedOf, connectableOf, talkingOf, activeOf, upOf, liveOf}
 use Rattle.call.specs.declared.Call.{Call}
 use Rattle.event.specs.declared.Event.{Event}
 use Rattle.call.specs.Sound.{freshCall}
-use Rattle.call.specs.Step.{stepOf}
-use Rattle.call_promises.specs.Numbers.{meterFrom, other}
+use Rattle.call_promises.specs.Numbers.{meterFrom, other, Core}
 use Rattle.call_promises.specs.Sound.{Offered, runOf}
+
+-- no request is open
+abbrev pub noneAsks : Asking
+noneAsks = record { calling = false; called = false }
 
 -- what one direction has
 pub record Purse : Type 0 where
@@ -98,7 +100,7 @@ empty = record { credit = 0; count = 0 }
 
 abbrev pub begins : Rights → Requests → Phase → Account
 begins r q phase =
-    record { rights = r; asked = q; phase = phase; two = false; three = false; asks = nobodyAsks; calling = empty; called = empty }
+    record { rights = r; asked = q; phase = phase; two = false; three = false; asks = noneAsks; calling = empty; called = empty }
 
 -- "Coming into force, service 3 gives each direction X credits"
 abbrev pub grants : Account → Account
@@ -155,12 +157,20 @@ abbrev pub may : Rights → Side → Bool
 may r Side.Calling = hasOf r Service.Three
 may r Side.Called = hasOf r Service.Three && r .leave
 
+abbrev pub asksAt : Asking → Side → Bool
+asksAt a Side.Calling = a .calling
+asksAt a Side.Called = a .called
+
+abbrev pub askAt : Asking → Side → Bool → Asking
+askAt a Side.Calling b = record { calling = b; called = a .called }
+askAt a Side.Called b = record { calling = a .calling; called = b }
+
 abbrev pub agrees : Account → Side → What → Account
 agrees a side What.Preferred =
-    cond (may (a .rights) side && not (a .three || asksOf (a .asks) side)) (opens a (withAskOf (a .asks) side true)) a
-agrees a side What.Accept = cond (not (a .three) && asksOf (a .asks) (other side)) (grants (opens a nobodyAsks)) a
+    cond (may (a .rights) side && not (a .three || asksAt (a .asks) side)) (opens a (askAt (a .asks) side true)) a
+agrees a side What.Accept = cond (not (a .three) && asksAt (a .asks) (other side)) (grants (opens a noneAsks)) a
 agrees a side What.Reject =
-    cond (not (a .three) && asksOf (a .asks) (other side)) (opens a (withAskOf (a .asks) (other side) false)) a
+    cond (not (a .three) && asksAt (a .asks) (other side)) (opens a (askAt (a .asks) (other side) false)) a
 agrees a side What.Required = a
 
 -- "A tick adds Y, to at most X."
@@ -201,13 +211,13 @@ pub record Balanced (c : Call) (a : Account) (side : Side) : Type 0 where
 
 -- CREDIT. After every list of events from a fresh record each direction's credit and count are those of the account.
 -- The events of a run up to any one of them are such a list: so this holds after every event of every run.
-abbrev pub Credit : Type 0
-Credit = (os : List Offered) (side : Side) → Balanced (runOf freshCall os) (accountOf unopened os) side
+abbrev pub Credit : Core → Type 0
+Credit f = (os : List Offered) (side : Side) → Balanced (runOf f freshCall os) (accountOf unopened os) side
 
 -- COVERED. And nothing goes over unpaid: a message that is answered 0 is paid by the count, or by a credit that is
 -- there.
-abbrev pub Covered : Type 0
-Covered =
+abbrev pub Covered : Core → Type 0
+Covered f =
     (os : List Offered) (side : Side) (more : Bool) (l : List ℕ) →
-    numberOf (stepOf (runOf freshCall os) (Event.Information side more) l .answer) ≡ 0 →
+    numberOf (f (runOf f freshCall os) (Event.Information side more) l .answer) ≡ 0 →
     (byCount (accountOf unopened os) side ≡ true) ⊎ (byCredit (accountOf unopened os) side ≡ true)

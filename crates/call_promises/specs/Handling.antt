@@ -21,8 +21,7 @@ use Rattle.answer.specs.Answer.{numberOf}
 use Rattle.call.specs.declared.Call.{Call}
 use Rattle.event.specs.declared.Event.{Event}
 use Rattle.call.specs.declared.reply.Reply.{Reply}
-use Rattle.call.specs.Step.{stepOf}
-use Rattle.call_promises.specs.Numbers.{WellFormed, InForce, Has, ServesTwo, ServesThree, meterFrom, other}
+use Rattle.call_promises.specs.Numbers.{WellFormed, InForce, Has, ServesTwo, ServesThree, meterFrom, other, Core}
 use Rattle.call_promises.specs.Notes.{Bare, limitFor}
 use Rattle.call_promises.specs.Refusals.{sentTo}
 
@@ -32,8 +31,8 @@ handedIn Sent.Absent l = []
 handedIn (Sent.Present m) l = cond (m .element) l []
 
 -- the octets that a user is handed at an event
-abbrev pub handedTo : Call → Event → List ℕ → Side → List ℕ
-handedTo c e l side = handedIn (sentTo (stepOf c e l) side) l
+abbrev pub handedTo : Core → Call → Event → List ℕ → Side → List ℕ
+handedTo f c e l side = handedIn (sentTo (f c e l) side) l
 
 -- An event's element goes out to one user only and in the event's own message. More data belongs to USER INFORMATION
 -- only.
@@ -44,31 +43,31 @@ pub data Goes : Event → Side → Kind → Bool → Type 0 where
   information : {from : Side} {more : Bool} → Goes (Event.Information from more) (other from) Kind.UserInformation more
   disconnect : {from : Side} {cause : ℕ} {answers : Answers} → Goes (Event.Disconnect from cause answers) (other from) Kind.Disconnect false
 
-pub record Whole (c : Call) (e : Event) (l : List ℕ) (side : Side) : Type 0 where
-  pub own : handedTo c e l side ≡ l
+pub record Whole (f : Core) (c : Call) (e : Event) (l : List ℕ) (side : Side) : Type 0 where
+  pub own : handedTo f c e l side ≡ l
   pub formed : WellFormed l
   pub limit : length l ≤ limitFor c e
   pub message : Message
-  pub sent : sentTo (stepOf c e l) side ≡ Sent.Present message
+  pub sent : sentTo (f c e l) side ≡ Sent.Present message
   pub goes : Goes e side (message .kind) (message .more)
-  pub alone : handedTo c e l (other side) ≡ []
+  pub alone : handedTo f c e l (other side) ≡ []
 
 -- UNALTERED. Whatever octets a user is handed at an event, they are the event's own element, whole.
-abbrev pub Unaltered : Type 0
-Unaltered = (c : Call) (e : Event) (l : List ℕ) (side : Side) → (handedTo c e l side ≡ [] → ⊥) → Whole c e l side
+abbrev pub Unaltered : Core → Type 0
+Unaltered f = (c : Call) (e : Event) (l : List ℕ) (side : Side) → (handedTo f c e l side ≡ [] → ⊥) → Whole f c e l side
 
 -- the event is taken, and there is no note on its element
 abbrev pub Unnoted : Reply → Type 0
 Unnoted r = (numberOf (r .answer) ≡ 0) × (noteNumberOf (r .note) ≡ 0)
 
-pub record Out (c : Call) (e : Event) (l : List ℕ) : Type 0 where
-  pub unnoted : (Bare e → ⊥) → (length l ≡ 0 → ⊥) → Unnoted (stepOf c e l) → (to : Side) × Whole c e l to
-  pub dropped : (Unnoted (stepOf c e l) → ⊥) → (side : Side) → handedTo c e l side ≡ []
+pub record Out (f : Core) (c : Call) (e : Event) (l : List ℕ) : Type 0 where
+  pub unnoted : (Bare e → ⊥) → (length l ≡ 0 → ⊥) → Unnoted (f c e l) → (to : Side) × Whole f c e l to
+  pub dropped : (Unnoted (f c e l) → ⊥) → (side : Side) → handedTo f c e l side ≡ []
 
 -- GOES OUT. "A noted element is dropped and the rest acted on": an event's element goes out, whole and to the user that
 -- `Goes` names, exactly if the event is taken and there is no note on the element. Otherwise nobody is handed anything.
-abbrev pub GoesOut : Type 0
-GoesOut = (c : Call) (e : Event) (l : List ℕ) → Out c e l
+abbrev pub GoesOut : Core → Type 0
+GoesOut f = (c : Call) (e : Event) (l : List ℕ) → Out f c e l
 
 -- SETUP asks for a service by a request, or for service 1 by its element: "An element without note 1 or 2 and with no
 -- explicit request for service 1 is an implicit preferred request."
@@ -96,7 +95,7 @@ pub data Under (c : Call) (l : List ℕ) (d : Call) : Event → Type 0 where
 
 -- UNDER A SERVICE. A user is handed octets only where a service is in force for them in that phase or, in SETUP,
 -- service 1 is asked for and the rights have it.
-abbrev pub UnderAService : Type 0
-UnderAService =
+abbrev pub UnderAService : Core → Type 0
+UnderAService f =
     (c : Call) (e : Event) (l : List ℕ) (side : Side) →
-    (handedTo c e l side ≡ [] → ⊥) → Under c l (stepOf c e l .call) e
+    (handedTo f c e l side ≡ [] → ⊥) → Under c l (f c e l .call) e

@@ -9,9 +9,8 @@ use Rattle.sent.specs.declared.side.Side.{Side}
 use Rattle.call.specs.declared.Call.{Call}
 use Rattle.event.specs.declared.Event.{Event}
 use Rattle.call.specs.Sound.{freshCall}
-use Rattle.call.specs.Step.{stepOf}
 use Rattle.call_promises.specs.Ranges.{Up, RightsInRange}
-use Rattle.call_promises.specs.Numbers.{Has}
+use Rattle.call_promises.specs.Numbers.{Has, Core}
 use Rattle.call_promises.specs.Sound.{Offered, runOf}
 use Rattle.call_promises.specs.Handling.{handedTo}
 
@@ -50,14 +49,14 @@ pub record Handed : Type 0 where
   pub called : List ℕ
 
 -- what is handed over at each event of a run
-abbrev pub handedOf : Call → List Offered → List Handed
-handedOf c [] = []
-handedOf c (o ∷ os) =
+abbrev pub handedOf : Core → Call → List Offered → List Handed
+handedOf f c [] = []
+handedOf f c (o ∷ os) =
     record {
-      calling = handedTo c (o .event) (o .element) Side.Calling;
-      called = handedTo c (o .event) (o .element) Side.Called;
+      calling = handedTo f c (o .event) (o .element) Side.Calling;
+      called = handedTo f c (o .event) (o .element) Side.Called;
     }
-    ∷ handedOf (stepOf c (o .event) (o .element) .call) os
+    ∷ handedOf f (f c (o .event) (o .element) .call) os
 
 -- "each element handed over in the first run is handed over, octet for octet, at the same event in the second"
 abbrev pub Kept : List ℕ → List ℕ → Type 0
@@ -73,8 +72,8 @@ abbrev pub InStep : Call → Call → Type 0
 InStep c d = Up (c .phase) → d .phase ≡ c .phase
 
 -- MORE RIGHTS.
-abbrev pub MoreRights : Type 0
-MoreRights =
+abbrev pub MoreRights : Core → Type 0
+MoreRights f =
     (r r' : Rights) → NoLess r r' → (os : List Offered) →
-    NoFewer (handedOf freshCall (withRights r os)) (handedOf freshCall (withRights r' os))
-    × InStep (runOf freshCall (withRights r os)) (runOf freshCall (withRights r' os))
+    NoFewer (handedOf f freshCall (withRights r os)) (handedOf f freshCall (withRights r' os))
+    × InStep (runOf f freshCall (withRights r os)) (runOf f freshCall (withRights r' os))

@@ -18,8 +18,7 @@ use Rattle.phases.specs.declared.Phase.{Phase}
 use Rattle.sent.specs.declared.side.Side.{Side}
 use Rattle.call.specs.declared.Call.{Call}
 use Rattle.event.specs.declared.Event.{Event}
-use Rattle.call.specs.Step.{stepOf}
-use Rattle.call_promises.specs.Numbers.{Has, InForce, WellFormed, answerRows}
+use Rattle.call_promises.specs.Numbers.{Has, InForce, WellFormed, answerRows, Core}
 
 -- "A noted element is dropped .., except after 17 ... Every other refusal has note 0." The number is the table's.
 abbrev pub Refused : Call → Event → List ℕ → Type 0
@@ -110,5 +109,5 @@ noteRows c e l =
     (row (NotCarried c e) 3 end))))
 
 -- NOTES. For every record, event and element: a note is given exactly when the table says it.
-abbrev pub Notes : Type 0
-Notes = (c : Call) (e : Event) (l : List ℕ) → Exactly (noteRows c e l) (noteNumberOf (stepOf c e l .note))
+abbrev pub Notes : Core → Type 0
+Notes f = (c : Call) (e : Event) (l : List ℕ) → Exactly (noteRows c e l) (noteNumberOf (f c e l .note))

@@ -17,10 +17,14 @@ use Rattle.sent.specs.declared.side.Side.{Side}
 use Rattle.answer.specs.Answer.{numberOf}
 use Rattle.call.specs.declared.Call.{Call}
 use Rattle.event.specs.declared.Event.{Event}
-use Rattle.call.specs.Step.{stepOf}
 use Rattle.call_promises.specs.Ranges.{Up, Live, ReferenceInRange, RightsInRange, Unsound}
+use Rattle.call.specs.declared.reply.Reply.{Reply}
 
 -- 25 and the ranges: `Ranges.antt`.
+
+-- A core: what it replies to an event with its element, at a record. The promises are stated of any core.
+abbrev pub Core : Type 0
+Core = Call → Event → List ℕ → Reply
 
 -- 12: "CALL PROCEEDING or CONGESTION CONTROL offered as an event"
 abbrev pub NotAnEvent : Event → Type 0
@@ -155,5 +159,5 @@ answerRows c e l =
 
 -- ANSWERS. For every record, event and element: a number is given exactly when the table says it, and 0 exactly when no
 -- row applies.
-abbrev pub Answers : Type 0
-Answers = (c : Call) (e : Event) (l : List ℕ) → Exactly (answerRows c e l) (numberOf (stepOf c e l .answer))
+abbrev pub Answers : Core → Type 0
+Answers f = (c : Call) (e : Event) (l : List ℕ) → Exactly (answerRows c e l) (numberOf (f c e l .answer))

@@ -17,8 +17,7 @@ use Rattle.call.specs.declared.Call.{Call}
 use Rattle.event.specs.declared.Event.{Event}
 use Rattle.flow_meter.specs.declared.call_meters.Meters.{Meters}
 use Rattle.call.specs.declared.reply.Reply.{Reply}
-use Rattle.call.specs.Step.{stepOf}
-use Rattle.call_promises.specs.Numbers.{Informs, Says, ServesThree, meterFrom, other}
+use Rattle.call_promises.specs.Numbers.{Informs, Says, ServesThree, meterFrom, other, Core}
 
 -- what a reply sends to a side
 abbrev pub sentTo : Reply → Side → Sent
@@ -106,7 +105,7 @@ pub record Refusal (c : Call) (e : Event) (n : ℕ) (r : Reply) : Type 0 where
   pub others : (n ≡ 14 → ⊥) → (n ≡ 16 → ⊥) → Unmoved c r
 
 -- REFUSALS. An answer other than 0 leaves the whole record as it was and sends nothing; but for 14 and 16.
-abbrev pub Refusals : Type 0
-Refusals =
+abbrev pub Refusals : Core → Type 0
+Refusals f =
     (c : Call) (e : Event) (l : List ℕ) →
-    (numberOf (stepOf c e l .answer) ≡ 0 → ⊥) → Refusal c e (numberOf (stepOf c e l .answer)) (stepOf c e l)
+    (numberOf (f c e l .answer) ≡ 0 → ⊥) → Refusal c e (numberOf (f c e l .answer)) (f c e l)

@@ -18,8 +18,7 @@ use Rattle.answer.specs.Answer.{numberOf}
 use Rattle.call.specs.declared.Call.{Call}
 use Rattle.event.specs.declared.Event.{Event}
 use Rattle.call.specs.Sound.{freshCall}
-use Rattle.call.specs.Step.{stepOf}
-use Rattle.call_promises.specs.Numbers.{InForce, Has}
+use Rattle.call_promises.specs.Numbers.{InForce, Has, Core}
 use Rattle.call_promises.specs.Notes.{LacksRequired, AlertingFails, ConnectFails}
 use Rattle.call_promises.specs.Sound.{Offered, runOf}
 use Rattle.call_promises.specs.Handling.{Explicit, Implied}
@@ -48,12 +47,12 @@ pub record Happens (P : List Offered → Offered → Type 0) (os : List Offered)
   pub holds : P before event
 
 -- the event is answered 0
-abbrev pub Taken : Call → Event → List ℕ → Type 0
-Taken c e l = numberOf (stepOf c e l .answer) ≡ 0
+abbrev pub Taken : Core → Call → Event → List ℕ → Type 0
+Taken f c e l = numberOf (f c e l .answer) ≡ 0
 
 -- in a run from a fresh record the event is taken, and P holds of it
-abbrev pub Takes : (Event → List ℕ → Type 0) → List Offered → Offered → Type 0
-Takes P before o = Taken (runOf freshCall before) (o .event) (o .element) × P (o .event) (o .element)
+abbrev pub Takes : Core → (Event → List ℕ → Type 0) → List Offered → Offered → Type 0
+Takes f P before o = Taken f (runOf f freshCall before) (o .event) (o .element) × P (o .event) (o .element)
 
 -- SETUP asks for a service as required
 pub data Requires (k : Service) : Event → List ℕ → Type 0 where
@@ -61,10 +60,10 @@ pub data Requires (k : Service) : Event → List ℕ → Type 0 where
 
 -- REQUIRED. After every run from a fresh record: if the call is Active, every service is in force that its SETUP asked
 -- for as required.
-abbrev pub Required : Type 0
-Required =
+abbrev pub Required : Core → Type 0
+Required f =
     (os : List Offered) (k : Service) →
-    Happens (Takes (Requires k)) os → runOf freshCall os .phase ≡ Phase.Active → InForce (standingFor (runOf freshCall os .standings) k)
+    Happens (Takes f (Requires k)) os → runOf f freshCall os .phase ≡ Phase.Active → InForce (standingFor (runOf f freshCall os .standings) k)
 
 -- An event at which a required service fails: SETUP that asks for one the rights lack, ALERTING or CONNECT that does
 -- not accept one that is due.
@@ -74,9 +73,9 @@ pub data Failing (c : Call) : Event → Phase → Type 0 where
   connect : {a : Answers} → ConnectFails (c .phase) (c .standings) a → Failing c (Event.Connect a) Phase.Clearing
 
 -- FAILED. Where such an event is taken, the call is Ended or Clearing at once.
-abbrev pub Failed : Type 0
-Failed =
-    (c : Call) (e : Event) (l : List ℕ) (p : Phase) → Taken c e l → Failing c e p → stepOf c e l .call .phase ≡ p
+abbrev pub Failed : Core → Type 0
+Failed f =
+    (c : Call) (e : Event) (l : List ℕ) (p : Phase) → Taken f c e l → Failing c e p → f c e l .call .phase ≡ p
 
 -- an event asks for a service, and may: SETUP by a request or, for service 1, by its element; FACILITY for service 3
 pub data AsksFor : Service → Event → List ℕ → Type 0 where
@@ -95,10 +94,10 @@ pub data Accepts : Service → Event → List ℕ → Type 0 where
   element : {reference : ℕ} {rights : Rights} {q : Requests} {l : List ℕ} → Implied rights q l → Accepts Service.One (Event.Setup reference rights q) l
 
 -- the rights have the service; an event of the run accepted it, and by then one had asked for it
-pub record Grant (os : List Offered) (k : Service) : Type 0 where
-  pub had : Has (runOf freshCall os .rights) k
-  pub accepted : Happens (λ before o. Takes (Accepts k) before o × Happens (Takes (AsksFor k)) (before ++ (o ∷ []))) os
+pub record Grant (f : Core) (os : List Offered) (k : Service) : Type 0 where
+  pub had : Has (runOf f freshCall os .rights) k
+  pub accepted : Happens (λ before o. Takes f (Accepts k) before o × Happens (Takes f (AsksFor k)) (before ++ (o ∷ []))) os
 
 -- GRANTED. After every run from a fresh record a service is in force only if it was granted in that run.
-abbrev pub Granted : Type 0
-Granted = (os : List Offered) (k : Service) → InForce (standingFor (runOf freshCall os .standings) k) → Grant os k
+abbrev pub Granted : Core → Type 0
+Granted f = (os : List Offered) (k : Service) → InForce (standingFor (runOf f freshCall os .standings) k) → Grant f os k

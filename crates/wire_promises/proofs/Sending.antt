@@ -240,7 +240,7 @@ non-empty x xs h = let z : length (x ∷ xs) ≡ 0 = ap length h in omega arith
 goes-user : (c : Call) (e : Event) (l : List ℕ) (side : Side) (m : Message) → sentTo (stepOf c e l) side ≡ Sent.Present m → m .element ≡ true → (length l ≡ 0) ⊎ UserElement l
 goes-user c e [] side m h g = inl refl
 goes-user c e (x ∷ xs) side m h g =
-    let own : handedTo c e (x ∷ xs) side ≡ x ∷ xs = rw (h, g) refl in
+    let own : handedTo stepOf c e (x ∷ xs) side ≡ x ∷ xs = rw (h, g) refl in
     let w = unaltered c e (x ∷ xs) side (λ n. non-empty x xs (sym own ∙ n)) in
     inr (formed-user _ (limitFor c e) (w .formed) (w .limit) (sent-fits c e (x ∷ xs) side m h .most))
 

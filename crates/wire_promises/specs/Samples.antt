@@ -46,7 +46,7 @@ lineOf (Sent.Present m) l = writtenIn (answerTo host m l buffer) (leftIn host m 
 abbrev pub AllSent : List Sample → Type 0
 AllSent [] = Unit {0}
 AllSent (s ∷ ss) =
-    (lineOf (sentTo (stepOf (runOf freshCall (s .before)) (s .event .event) (s .event .element)) (s .side)) (s .event .element)
+    (lineOf (sentTo (stepOf (runOf stepOf freshCall (s .before)) (s .event .event) (s .event .element)) (s .side)) (s .event .element)
     ≡ s .front ++ s .element)
     × (userUserOf (s .front ++ s .element) ≡ s .element)
     × AllSent ss
