@@ -1,6 +1,6 @@
 -- Every field of the next record is what the sentences say, and nothing else.
 use Prim.Native.Nat.{ℕ, _+_, _-_, _<_, _≤_}
-use mathlib.Core.List.{List}
+use mathlib.Core.List.{List, [], _∷_}
 use mathlib.Core.Bool.{Bool, true, false, cond, _&&_, not}
 use mathlib.Core.Logic.{_⊎_, inl, inr, ⊎-elim}
 use mathlib.Core.Path.{_≡_, refl, sym, _∙_, ap, subst}
@@ -53,16 +53,16 @@ use Rattle.call.specs.Facility.{facilityVerdictOf, facilityCallOf, passesFacili
 use Rattle.call.specs.Information.{metersOf, informationPassageOf, carriedOf, withElementOf, informationOf}
 use Rattle.call.specs.Reply.{refusedOf, replyOf}
 use Rattle.call.specs.Setup.{filledOf, proceedsOf, setupOf}
-use Rattle.call.specs.Sound.{soundOf, inPhaseOf}
+use Rattle.call.specs.Sound.{freshCall, soundOf, inPhaseOf}
 use Rattle.call.specs.Step.{notAnEventOf, stepOf}
 use Rattle.call.specs.Tick.{runsOf, passesTickOf, tickOf}
 use Rattle.logic.proofs.Decide.{never, by-cond, Decides, Denies, both, always, over}
 use Rattle.logic.proofs.Decide.{denied as denies}
-use Rattle.call_promises.specs.Numbers.{Allowed, Has, ServesThree, meterFrom, other, tells}
+use Rattle.call_promises.specs.Numbers.{Core, Allowed, Has, ServesThree, meterFrom, other, tells}
 use Rattle.call_promises.specs.Notes.{LacksRequired, Open}
 use Rattle.call_promises.specs.Handling.{Explicit, Implied}
 use Rattle.call_promises.specs.Sends.{Hears, Counts, FailsAt, Intact, CountPays, CreditPays, FirstDropped, Agreed, Accepting}
-use Rattle.call_promises.specs.Becomes.{altered, turnedTo, withMeter, askingFrom, topped, toppedBoth, Stands, unasked, preferred, required, implicit, lacking, Opens, ended, requested, filled, Earns, earns, earns-not, Answered, on, clears, Last, accepted, as-before, Refilled, adds, tops, Becomes, setup, alerting, connect, counts, pays, marks, drops, asks, accepts, rejects, refuses, disconnect, release, ticks, rests, Next, acts, bars, Left}
+use Rattle.call_promises.specs.Becomes.{altered, turnedTo, withMeter, askingFrom, topped, toppedBoth, Stands, unasked, preferred, required, implicit, lacking, Opens, ended, requested, filled, Earns, earns, earns-not, Answered, on, clears, Last, accepted, as-before, Refilled, adds, tops, Becomes, setup, alerting, connect, counts, pays, marks, drops, asks, accepts, rejects, refuses, disconnect, release, ticks, rests, Next, acts, bars, Left, BecomesExactly, Ran, stays, goes, History}
 use Rattle.call_promises.proofs.Conditions.{has, serves-three}
 use Rattle.call_promises.proofs.Notes.{lacks}
 use Rattle.call_promises.proofs.Phases.{fresh, connectable, talking, active, up, live}
@@ -70,6 +70,7 @@ use Rattle.call_promises.proofs.Phases.{requested as is-requested}
 use Rattle.call_promises.proofs.Ranges.{unsound, reference-range, rights-range}
 use Rattle.call_promises.proofs.Seen.{Sight, absent, malformed, too-long, whole, sight}
 use Rattle.call_promises.proofs.Parts.{Let, through, stopped, let-through, Tests, tests, View, idle, asked, alerting-one, alerting-two, alerting-three, connect-one, connect-two, connect-three, settles-is, settles-one, failure, Outcome, sound, fails, outcome, Met, counted, paid, marked, spent, unserved, met, paid-once, left-once, Verdict, agreed, ungranted, neither, verdict, awaits, Third, three-accepted, three-kept, third-of}
+use Rattle.call_promises.specs.Sound.{Offered, runOf}
 
 -- ---- a record and the sentence that makes it
 
@@ -466,7 +467,7 @@ no-event c l e n =
     let h : Hears c e → ⊥ = (λ k. n (k .allowed)) in
     left-by c refl (bars h) (barred c l e h)
 
-pub becomes : (c : Call) (e : Event) (l : List ℕ) → Left (Next c l e) (stepOf c e l .call)
+pub becomes : BecomesExactly stepOf
 unfolding setupOf alertingOf connectOf informationOf facilityOf disconnectOf releaseCompleteOf tickOf
 becomes c (Event.Setup n r q) l =
     let-left c l _ _ _ _ (let-through c _ _ _)
@@ -483,3 +484,23 @@ becomes c (Event.ReleaseComplete side) l = let-left c l _ _ _ _ (let-through c _
 becomes c Event.Tick l = let-left c l _ _ _ _ (let-through c _ _ _) (tests c _ _ _ (unsound c) (live (c .phase)) always) (tick-left c l)
 becomes c Event.CallProceeding l = no-event c l _ (λ x. x)
 becomes c Event.CongestionControl l = no-event c l _ (λ x. x)
+
+-- ---- runs
+
+ran-none : {c d : Call} → Ran c [] d → c ≡ d
+ran-none stays = refl
+
+module _ (f : Core) (b : BecomesExactly f) where
+  ran-on : (c : Call) (o : Offered) (os : List Offered) (r : Call) → ((d : Call) → Left (Ran d os) (runOf f d os)) → Ran c (o ∷ os) r → runOf f (f c (o .event) (o .element) .call) os ≡ r
+  ran-on c o os r h (goes {d = d} n x) = ap (λ (k : Call). runOf f k os) (b c (o .event) (o .element) d .1 n) ∙ h d r .1 x
+
+  ran : (os : List Offered) (c : Call) → Left (Ran c os) (runOf f c os)
+  ran [] c d = ((λ h. subst (Ran c []) h stays), ran-none)
+  ran (o ∷ os) c r = ((λ h. goes (b c (o .event) (o .element) _ .0 refl) (ran os _ r .0 h)), ran-on c o os r (ran os))
+
+  -- whoever makes each record as the sentences say makes the history
+  pub history-of : History f
+  history-of os = ran os freshCall
+
+pub history : History stepOf
+history = history-of stepOf becomes

@@ -62,7 +62,7 @@ use Rattle.call_promises.specs.Notes.{LacksRequired, Open, NotCarried, l
 use Rattle.call_promises.specs.Refusals.{sentTo}
 use Rattle.call_promises.specs.Handling.{Explicit}
 use Rattle.call_promises.specs.Services.{answerFor, standingFor}
-use Rattle.call_promises.specs.Sends.{Hears, Flags, Rides, telling, curt, congested, informing, Denied, denied, undenied, Remaining, preferred, required, gone, FailsAt, Blames, rejected, unanswered, Answering, on, clears, clears-too, Intact, CountPays, CreditPays, FirstDropped, Agreed, Worded, request, accept, reject, Pending, Rejecting, Accepting, LastWord, rejects, accepts, mute, Sends, released, proceeding, setup, alerting, connect, passes, warns, facility, refuses, disconnect, release, ready, Told}
+use Rattle.call_promises.specs.Sends.{Hears, Flags, Rides, telling, curt, congested, informing, Denied, denied, undenied, Remaining, preferred, required, gone, FailsAt, Blames, rejected, unanswered, Answering, on, clears, clears-too, Intact, CountPays, CreditPays, FirstDropped, Agreed, Worded, request, accept, reject, Pending, Rejecting, Accepting, LastWord, rejects, accepts, mute, Sends, released, proceeding, setup, alerting, connect, passes, warns, facility, refuses, disconnect, release, ready, Told, SendsExactly}
 use Rattle.call_promises.proofs.Conditions.{in-force, has, serves-three}
 use Rattle.call_promises.proofs.Notes.{lacks, setup-carries, alerting-carries, connect-carries, disconnect-comes, carriesOf, failsOf, any-fails}
 use Rattle.call_promises.proofs.Phases.{fresh, requested, connectable, talking, active, up, live}
@@ -556,7 +556,7 @@ no-event : (c : Call) (e : Event) (l : List ℕ) (side : Side) → (Allowed e (c
 unfolding notAnEventOf
 no-event c e l side n = none-told c e l side n _ _
 
-pub sends : (c : Call) (e : Event) (l : List ℕ) (side : Side) → Told (λ m. Hears c e × Sends c l e side m) (sentTo (stepOf c e l) side)
+pub sends : SendsExactly stepOf
 unfolding setupOf alertingOf connectOf informationOf facilityOf disconnectOf releaseCompleteOf tickOf
 sends c (Event.Setup n r q) l side =
     let-told c _ l side _ _ _ (let-through c _ _ _)

@@ -1,7 +1,7 @@
 -- What becomes of the record, exactly: every field of the next record after a single event, from any record. A constructor
 -- for each sentence of the paper. Nothing here names a function by which the step makes a record.
 use Prim.Native.Nat.{ℕ, _+_, _-_, _<_, _≤_}
-use mathlib.Core.List.{List}
+use mathlib.Core.List.{List, [], _∷_}
 use mathlib.Core.Logic.{_⊎_}
 use mathlib.Core.Bool.{Bool, true, false}
 use mathlib.Core.Path.{_≡_}
@@ -22,10 +22,12 @@ use Rattle.phases.specs.declared.Phase.{Phase}
 use Rattle.sent.specs.declared.side.Side.{Side}
 use Rattle.call.specs.declared.Call.{Call}
 use Rattle.event.specs.declared.Event.{Event}
-use Rattle.call_promises.specs.Numbers.{Has, ServesThree, meterFrom, other}
+use Rattle.call_promises.specs.Numbers.{Core, Has, ServesThree, meterFrom, other}
 use Rattle.call_promises.specs.Notes.{LacksRequired}
 use Rattle.call_promises.specs.Handling.{Explicit, Implied}
 use Rattle.call_promises.specs.Sends.{Hears, Counts, Settles, FailsAt, CountPays, CreditPays, FirstDropped, Agreed, Accepting}
+use Rattle.call_promises.specs.Sound.{Offered, runOf}
+use Rattle.call.specs.Sound.{freshCall}
 
 -- the record with other fields; its reference and its rights stay for the whole call
 abbrev pub altered : Call → Phase → Standings → Asking → Meters → Call
@@ -181,3 +183,16 @@ pub data Next (c : Call) (l : List ℕ) (e : Event) : Call → Type 0 where
 -- P holds of a record exactly if it is this one
 abbrev pub Left : (Call → Type 0) → Call → Type 0
 Left P c = (d : Call) → (c ≡ d → P d) × (P d → c ≡ d)
+
+-- BECOMES. For every record, sound or not, every event and every element: the next record.
+abbrev pub BecomesExactly : Core → Type 0
+BecomesExactly f = (c : Call) (e : Event) (l : List ℕ) → Left (Next c l e) (f c e l .call)
+
+-- HISTORY. After every list of events from a fresh record the record is the one that the events and their elements
+-- alone make: phase, reference, rights, the standing of each service, whose request is open, credit, mark and count.
+pub data Ran : Call → List Offered → Call → Type 0 where
+  stays : {c : Call} → Ran c [] c
+  goes : {o : Offered} {os : List Offered} {c d r : Call} → Next c (o .element) (o .event) d → Ran d os r → Ran c (o ∷ os) r
+
+abbrev pub History : Core → Type 0
+History f = (os : List Offered) → Left (Ran freshCall os) (runOf f freshCall os)

@@ -26,10 +26,11 @@ use Rattle.sent.specs.declared.side.Side.{Side}
 use Rattle.call.specs.declared.Call.{Call}
 use Rattle.event.specs.declared.Event.{Event}
 use Rattle.call_promises.specs.Ranges.{Unsound}
-use Rattle.call_promises.specs.Numbers.{Allowed, OutOfRange, WellFormed, Has, ServesTwo, ServesThree, AskedRequired, NotGranted, NotOpen, meterFrom, other}
+use Rattle.call_promises.specs.Numbers.{Core, Allowed, OutOfRange, WellFormed, Has, ServesTwo, ServesThree, AskedRequired, NotGranted, NotOpen, meterFrom, other}
 use Rattle.call_promises.specs.Notes.{LacksRequired, Open, NotCarried, limitFor}
 use Rattle.call_promises.specs.Handling.{Explicit}
 use Rattle.call_promises.specs.Services.{answerFor, standingFor}
+use Rattle.call_promises.specs.Refusals.{sentTo}
 
 -- an event that none of 25, 12, 11 and 24 keeps from being acted on
 pub record Hears (c : Call) (e : Event) : Type 0 where
@@ -263,3 +264,8 @@ pub data Sends (c : Call) (l : List ℕ) : Event → Side → Message → Type 0
 -- P holds of a message exactly if it is what is sent: of none where nothing is
 abbrev pub Told : (Message → Type 0) → Sent → Type 0
 Told P s = (m : Message) → (s ≡ Sent.Present m → P m) × (P m → s ≡ Sent.Present m)
+
+-- SENDS. For every record, event, element and side: what that side is sent, and whether it is sent anything.
+abbrev pub SendsExactly : Core → Type 0
+SendsExactly f =
+    (c : Call) (e : Event) (l : List ℕ) (side : Side) → Told (λ m. Hears c e × Sends c l e side m) (sentTo (f c e l) side)

@@ -1,0 +1,90 @@
+-- Whatever core meets the demands is this one.
+use Prim.Native.Nat.{ℕ}
+use mathlib.Core.List.{List}
+use mathlib.Core.Bool.{cond}
+use mathlib.Core.Path.{_≡_, refl, sym, _∙_, ap}
+use native.Mathlib.Omega.{arith}
+use lib.Dec.{eqb}
+use Rattle.logic.specs.First.{Rows, Exactly}
+use Rattle.user_element.specs.declared.Note.{Note}
+use Rattle.user_element.specs.Element.{noteNumberOf}
+use Rattle.answer.specs.declared.Answer.{Answer}
+use Rattle.answer.specs.Answer.{numberOf}
+use Rattle.sent.specs.declared.Message.{Message}
+use Rattle.sent.specs.declared.Sent.{Sent}
+use Rattle.sent.specs.declared.side.Side.{Side}
+use Rattle.call.specs.declared.Call.{Call}
+use Rattle.call.specs.declared.reply.Reply.{Reply}
+use Rattle.event.specs.declared.Event.{Event}
+use Rattle.call.specs.Step.{stepOf}
+use Rattle.call_promises.specs.Numbers.{Core, answerRows}
+use Rattle.call_promises.specs.Notes.{noteRows}
+use Rattle.call_promises.specs.Sends.{Told}
+use Rattle.call_promises.specs.Becomes.{Left}
+use Rattle.demands.specs.Demands.{Demands, Decided}
+use Rattle.demands.proofs.Meets.{meets}
+
+-- a number tells its answer, and its note
+abbrev answerAt : ℕ → Answer
+answerAt n =
+    cond (eqb n 0) Answer.Taken
+    (cond (eqb n 11) Answer.OutOfPhase
+    (cond (eqb n 12) Answer.NotAnEvent
+    (cond (eqb n 13) Answer.NoService
+    (cond (eqb n 14) Answer.Spent
+    (cond (eqb n 15) Answer.NotOpen
+    (cond (eqb n 16) Answer.NotGranted
+    (cond (eqb n 17) Answer.BadElement
+    (cond (eqb n 18) Answer.AskedRequired (cond (eqb n 24) Answer.OutOfRange Answer.Unsound)))))))))
+
+answer-back : (a : Answer) → answerAt (numberOf a) ≡ a
+answer-back Answer.Taken = refl
+answer-back Answer.OutOfPhase = refl
+answer-back Answer.NotAnEvent = refl
+answer-back Answer.NoService = refl
+answer-back Answer.Spent = refl
+answer-back Answer.NotOpen = refl
+answer-back Answer.NotGranted = refl
+answer-back Answer.BadElement = refl
+answer-back Answer.AskedRequired = refl
+answer-back Answer.OutOfRange = refl
+answer-back Answer.Unsound = refl
+
+abbrev noteAt : ℕ → Note
+noteAt n = cond (eqb n 0) Note.Clear (cond (eqb n 1) Note.Malformed (cond (eqb n 2) Note.TooLong Note.NotCarried))
+
+note-back : (n : Note) → noteAt (noteNumberOf n) ≡ n
+note-back Note.Clear = refl
+note-back Note.Malformed = refl
+note-back Note.TooLong = refl
+note-back Note.NotCarried = refl
+
+same-answer : (a b : Answer) → numberOf a ≡ numberOf b → a ≡ b
+same-answer a b e = sym (answer-back a) ∙ ap answerAt e ∙ answer-back b
+
+same-note : (a b : Note) → noteNumberOf a ≡ noteNumberOf b → a ≡ b
+same-note a b e = sym (note-back a) ∙ ap noteAt e ∙ note-back b
+
+same-number : (rows : Rows) (m n : ℕ) → Exactly rows m → Exactly rows n → m ≡ n
+same-number rows m n p q = p n .1 (q n .0 refl)
+
+-- what is told alike is sent alike
+absent : {m : Message} → Sent.Absent ≡ Sent.Present m → ⊥
+absent {m} e = let z : _≡_ {A = ℕ} 0 1 = cc in omega arith
+
+same-sent : (P : Message → Type 0) (s t : Sent) → Told P s → Told P t → s ≡ t
+same-sent P Sent.Absent Sent.Absent p q = refl
+same-sent P Sent.Absent (Sent.Present m) p q = absurd (absent (p m .1 (q m .0 refl)))
+same-sent P (Sent.Present m) t p q = sym (q m .1 (p m .0 refl))
+
+same-call : (P : Call → Type 0) (c d : Call) → Left P c → Left P d → c ≡ d
+same-call P c d p q = p d .1 (q d .0 refl)
+
+pub decided : Decided
+decided f d c e l =
+    let call = same-call _ _ _ (d .becomes c e l) (meets .becomes c e l) in
+    let answer = same-answer _ _ (same-number (answerRows c e l) _ _ (d .answers c e l) (meets .answers c e l)) in
+    let note = same-note _ _ (same-number (noteRows c e l) _ _ (d .notes c e l) (meets .notes c e l)) in
+    let calling = same-sent _ _ _ (d .sends c e l Side.Calling) (meets .sends c e l Side.Calling) in
+    let called = same-sent _ _ _ (d .sends c e l Side.Called) (meets .sends c e l Side.Called) in
+    λ i. record { call = call i; answer = answer i; note = note i; calling = calling i; called = called i }
