@@ -1,4 +1,4 @@
--- The edges and the instances, computed.
+-- The instances, computed.
 use mathlib.Core.Logic.{inl, inr}
 use mathlib.Core.Path.{refl}
 use Rattle.flow_meter.specs.Meter.{emptyOf, meterFitsOf, grantedOf, refilledOf, tickedOf}
@@ -23,25 +23,21 @@ use Rattle.call.specs.Disconnect.{closedCallOf, passedOnOf, disconnectOf}
 use Rattle.call.specs.Facility.{facilityVerdictOf, facilityCallOf, passesFacilityOf, facilityOf}
 use Rattle.call.specs.Tick.{runsOf, passesTickOf, tickOf}
 use Rattle.call.specs.Step.{notAnEventOf}
-use Rattle.call_cases.specs.Edges.{Edges}
 use Rattle.call_cases.specs.Instances.{Instances, Reached, Broken, Example}
 
 -- all under one line that opens the definitions
-computed : Edges × Instances × Reached × Broken × Example
+computed : Instances × Reached × Broken × Example
 unfolding emptyOf meterFitsOf grantedOf countedOf paidOf markedOf underThreeOf passageOf wellFormedOf seenOf goesOutOf rightsFitOf referenceFitsOf remainsOf firstStandingOf standingsOf lacksOf passedRequestsOf networkRefusalsOf failedOf settlesOf tellsOf declinesOf silence nobodyAsks sayingOf bareOf congestionOf informsOf onlyIfOf noRights noServices emptyMeters freshCall fieldsFitOf soundOf inPhaseOf barOf refusedOf heardOf replyOf setupPhaseOf filledOf toCallerOf toCalledOf setupCarriesOf proceedsOf setupOf grantsOf answeredCallOf goesOnOf clearsOf alertingFatesOf connectFatesOf answeredOf alertingOf connectOf metersOf informationPassageOf carriedOf withElementOf informationOf refilledOf tickedOf toRequestOf toAnswerOf silentAnswers closingFacilitiesOf closedCallOf passedOnOf disconnectOf facilityVerdictOf facilityCallOf aboutThreeOf passesFacilityOf facilityOf tickedMetersOf refillsOf readyOf runsOf passesTickOf tickOf notAnEventOf
-computed = ((refl, (refl, (refl, (refl, (refl, (refl, (refl, (refl, (refl, tt))))))))), (refl, (refl, (refl, (refl, (refl, (refl, (refl, (refl, (refl, (refl, (refl, (refl, (refl, (refl, tt)))))))))))))), inl (inr (inr refl)), refl, (refl, refl))
-
-pub edges : Edges
-edges = computed .0
+computed = ((refl, (refl, (refl, (refl, (refl, (refl, (refl, (refl, (refl, (refl, (refl, (refl, (refl, (refl, tt)))))))))))))), inl (inr (inr refl)), refl, (refl, refl))
 
 pub instances : Instances
-instances = computed .1
+instances = computed .0
 
 pub reached : Reached
-reached = computed .2
+reached = computed .1
 
 pub broken : Broken
-broken = computed .3
+broken = computed .2
 
 pub example : Example
-example = computed .4
+example = computed .3

@@ -1,7 +1,7 @@
--- The paper's edges that are marked P: those that belong to a call, as one table.
+-- A run of a call, the event that follows it and what it gives, as rows of a table; and what such rows are made of.
 use Prim.Native.Nat.{ℕ, _-_}
-use mathlib.Core.List.{List, [], _∷_, _++_}
-use mathlib.Core.Bool.{Bool, true, false}
+use mathlib.Core.List.{List, [], _∷_}
+use mathlib.Core.Bool.{Bool, false}
 use mathlib.Core.Path.{_≡_}
 use lib.ListN.{replicate}
 use Rattle.cause.specs.declared.Cause.{Cause}
@@ -88,64 +88,3 @@ ringing =
       element = [];
     }
     ∷ []
-
-abbrev pub elementCase : ℕ → ℕ → ℕ → Bool → Case
-elementCase limit n note carried =
-    record {
-      before = [];
-      event = setup 7 Request.Unasked Request.Unasked Request.Unasked limit (elementOf n);
-      gives =
-          record {
-            answer = 0;
-            note = note;
-            phase = Phase.Requested;
-            calling = message Kind.CallProceeding Cause.Absent false;
-            called = message Kind.Setup Cause.Absent carried;
-          };
-    }
-
--- "P element of 2 octets: note 1; of 3: carried; at the limit: carried; one more: note 2.
--- P third service 2 message one way: 14. P service 3 required, CONNECT silent: 69 and 31.
--- P service 2 required, not in rights: cause 50, Ended."
-abbrev pub edges : List Case
-edges =
-    elementCase 131 2 1 false
-    ∷ elementCase 131 3 0 true
-    ∷ elementCase 131 131 0 true
-    ∷ elementCase 131 132 2 false
-    ∷ elementCase 3 3 0 true
-    ∷ elementCase 3 4 2 false
-    ∷ record {
-      before = ringing ++ (says Side.Calling ∷ says Side.Called ∷ says Side.Calling ∷ []);
-      event = says Side.Calling;
-      gives = record { answer = 14; note = 0; phase = Phase.Alerting; calling = nothing; called = nothing };
-    }
-    ∷ record {
-      before = setup 7 Request.Unasked Request.Unasked Request.Required 131 [] ∷ [];
-      event = record { event = Event.Connect silent; element = [] };
-      gives =
-          record {
-            answer = 0;
-            note = 0;
-            phase = Phase.Clearing;
-            calling = message Kind.Disconnect (Cause.Value 69) false;
-            called = message Kind.Disconnect (Cause.Value 31) false;
-          };
-    }
-    ∷ record {
-      before = [];
-      event = setup 5 Request.Unasked Request.Required Request.Unasked 131 [];
-      gives =
-          record {
-            answer = 0;
-            note = 0;
-            phase = Phase.Ended;
-            calling = message Kind.ReleaseComplete (Cause.Value 50) false;
-            called = nothing;
-          };
-    }
-    ∷ []
-
--- EDGES. Each case gives what its row says.
-abbrev pub Edges : Type 0
-Edges = AllHold edges

@@ -22,7 +22,7 @@ use Rattle.message.specs.Reading.{headedOf, readOf}
 use Rattle.message.specs.Parts.{userUserOf}
 use Rattle.writer.specs.Fitting.{messageFits}
 use Rattle.writer.specs.Writing.{messageOctets}
-use Rattle.octet_promises.specs.Promises.{readRows, Reads, WholeElement, answerOf, bufferOf, writeRows, Write, Writes, Back, RoundTrip, Alike, Edges}
+use Rattle.octet_promises.specs.Promises.{readRows, Reads, WholeElement, answerOf, bufferOf, writeRows, Write, Writes, Back, RoundTrip, Alike}
 use Rattle.octet_promises.proofs.Table.{read-rows}
 use Rattle.octet_promises.proofs.Whole.{whole-element}
 use Rattle.octet_promises.proofs.Range.{in-range, range-fits}
@@ -94,7 +94,3 @@ module _ (other : Message) where
 pub alike : Alike
 alike w w' u u' h h' e =
     (sym (found-again w w u h) ∙ ap (λ (m : List ℕ). messageIn w (readOf m)) e ∙ found-again w w' u' h', sym (element-back w u h) ∙ ap userUserOf e ∙ element-back w' u' h')
-
-pub edge-cases : Edges
-unfolding readOf headedOf kindOf elements then takenFrom
-edge-cases = (refl, (refl, (refl, tt)))

@@ -1,11 +1,11 @@
 -- What is promised of reading and writing, over the definitions. Each statement is a type; `proofs/Promises.antt` has
 -- its proof.
-use Prim.Native.Nat.{ℕ, _+_, _-_, _<_, _≤_}
+use Prim.Native.Nat.{ℕ, _+_, _<_, _≤_}
 use mathlib.Core.List.{List, [], _∷_, _++_}
 use mathlib.Core.Logic.{_⊎_}
 use mathlib.Core.Bool.{true}
 use mathlib.Core.Path.{_≡_}
-use lib.ListN.{length, getD, take, drop, replicate}
+use lib.ListN.{length, getD, take, drop}
 use Rattle.logic.specs.First.{Rows, end, row, Exactly}
 use Rattle.cause.specs.declared.Cause.{Cause}
 use Rattle.memory.specs.declared.Wrote.{Wrote}
@@ -134,25 +134,3 @@ abbrev pub Alike : Type 0
 Alike =
     (w w' : Message) (u u' : List ℕ) →
     messageFits w u ≡ true → messageFits w' u' ≡ true → messageOctets w u ≡ messageOctets w' u' → (w ≡ w') × (u ≡ u')
-
--- EDGES. "P empty message: 1. P 260 octets may read, 261: 2." A SETUP with as many single octets as make it that long.
-pub record Case : Type 0 where
-  pub octets : List ℕ
-  pub number : ℕ
-
-abbrev pub setupWith : ℕ → List ℕ
-setupWith n = 8 ∷ 1 ∷ 0 ∷ 5 ∷ replicate n 0x80
-
-abbrev pub edges : List Case
-edges =
-    record { octets = []; number = 1 }
-    ∷ record { octets = setupWith 256; number = 0 }
-    ∷ record { octets = setupWith 257; number = 2 }
-    ∷ []
-
-abbrev pub AllHold : List Case → Type 0
-AllHold [] = Unit {0}
-AllHold (c ∷ cs) = (readNumber (readOf (c .octets)) ≡ c .number) × AllHold cs
-
-abbrev pub Edges : Type 0
-Edges = AllHold edges
