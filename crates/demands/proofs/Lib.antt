@@ -1,3 +1,4 @@
 pub mod Meets
 pub mod Decided
 pub mod WrongCores
+pub mod OneReply

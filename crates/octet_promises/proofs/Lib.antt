@@ -3,4 +3,3 @@ pub mod Whole
 pub mod Range
 pub mod Trip
 pub mod Promises
-pub mod OneReply
