@@ -6,3 +6,4 @@ pub mod Trip
 pub mod Promises
 pub mod OneReply
 pub mod Walk
+pub mod Given

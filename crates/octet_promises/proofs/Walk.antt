@@ -69,21 +69,32 @@ module _ (m : List ℕ) where
   then-walk cut l d k w = tt
   then-walk (whole es) l d k w = step l d k w
 
-  -- by how many octets are left at most
-  walk-by : (n p : ℕ) → length m ≤ p + n → (a b c : Bool) → leb (length m) p ≡ a → leb 0x80 (getD m p 0) ≡ b → leb (p + 2 + getD m (p + 1) 0) (length m) ≡ c → WalkIn p (elements p 0 (drop p m))
-  walk-by n p h true b c e f g = rw (none-left m p (leb-true _ _ e)) (stop (leb-true _ _ e))
-  walk-by zero p h false b c e f g = absurd (omega (arith, leb-false _ _ e))
-  walk-by (suc n) p h false true c e f g =
-      let l = leb-false _ _ e in
-      rw (ends-alone m p l (leb-true _ _ f) .turn) (then-walk _ l (alone (leb-true _ _ f)) (omega arith) (walk-by n (p + 1) (omega arith) _ _ _ refl refl refl))
-  walk-by (suc n) p h false false true e f g =
-      let l = leb-false _ _ e in
-      let k = leb-true _ _ g in
-      rw (ends-lengthy m p l (leb-false _ _ f) k .turn) (then-walk _ l (lengthy (leb-false _ _ f)) k (walk-by n (p + 2 + getD m (p + 1) 0) (omega arith) _ _ _ refl refl refl))
-  walk-by (suc n) p h false false false e f g = rw (ends-cut m p (leb-false _ _ e) (leb-false _ _ f) (leb-false _ _ g)) tt
+  abbrev From : ℕ → Type 0
+  From p = WalkIn p (elements p 0 (drop p m))
 
-  walk : (p : ℕ) → WalkIn p (elements p 0 (drop p m))
-  walk p = walk-by (length m) p (omega arith) _ _ _ refl refl refl
+  none-from : (p : ℕ) → length m ≤ p → From p
+  none-from p h = rw (none-left m p h) (stop h)
+
+  turn-from : (p : ℕ) → ((q : ℕ) → p < q → From q) → (a b c : Bool) → leb (length m) p ≡ a → leb 0x80 (getD m p 0) ≡ b → leb (p + 2 + getD m (p + 1) 0) (length m) ≡ c → From p
+  turn-from p r true b c e f g = none-from p (leb-true _ _ e)
+  turn-from p r false true c e f g =
+      let l = leb-false (length m) p e in
+      let h = leb-true 0x80 (getD m p 0) f in
+      rw (ends-alone m p l h .turn) (then-walk _ l (alone h) (omega arith) (r (p + 1) (omega arith)))
+  turn-from p r false false true e f g =
+      let l = leb-false (length m) p e in
+      let h = leb-false 0x80 (getD m p 0) f in
+      let k = leb-true (p + 2 + getD m (p + 1) 0) (length m) g in
+      rw (ends-lengthy m p l h k .turn) (then-walk _ l (lengthy h) k (r (p + 2 + getD m (p + 1) 0) (omega arith)))
+  turn-from p r false false false e f g = rw (ends-cut m p (leb-false _ _ e) (leb-false _ _ f) (leb-false _ _ g)) tt
+
+  -- by how many octets are left at most
+  walk-by : (n p : ℕ) → length m ≤ p + n → From p
+  walk-by zero p h = none-from p (omega arith)
+  walk-by (suc n) p h = turn-from p (λ q k. walk-by n q (omega arith)) _ _ _ refl refl refl
+
+  walk : (p : ℕ) → From p
+  walk p = walk-by (length m) p (omega arith)
 
   -- what the definition holds of an element stands in the message
   pub record Stands (e : Element) : Type 0 where
@@ -99,8 +110,8 @@ module _ (m : List ℕ) where
   -- the same places, from elsewhere on
   moved : {P Q : ℕ → Type 0} {i j : ℕ} {es : List Element} → i ≤ j → ((r : ℕ) → i ≤ r → Q r → (j ≤ r) × P r) → ((r : ℕ) → P r → Q r) → Lists P j es → Lists Q i es
   moved h f g (none n) = none (λ r k q. let t = f r k q in n r (t .0) (t .1))
-  moved h f g (next e k p b s l) =
-      next e (omega arith) (g (e .at) p) (λ r k' u q. let t = f r k' q in b r (t .0) u (t .1)) s (moved (omega arith) (λ r k' q. (k', f r (omega arith) q .1)) g l)
+  moved {i = i} {j} h f g (next e k p b s l) =
+      next {i = i} e (omega arith) (g (e .at) p) (λ r k' u q. let t = f r k' q in b r (t .0) u (t .1)) s (moved (omega arith) (λ r k' q. (k', f r (omega arith) q .1)) g l)
 
   -- what the scan looks at that is no shift
   pub record Plain (p : ℕ) (b : Bool) (r : ℕ) : Type 0 where
@@ -138,8 +149,8 @@ module _ (m : List ℕ) where
 
   lists : (b : Bool) {p : ℕ} {es : List Element} → Walk p es → Lists (Plain p b) p (counted b es)
   unfolding counted
-  lists true (stop h) = none (λ r k s. let t = looks-in (s .looks) in omega arith)
-  lists false (stop h) = none (λ r k s. let t = looks-in (s .looks) in omega arith)
+  lists true (stop {p} h) = none {i = p} (λ r k s. let t = looks-in (s .looks) in omega arith)
+  lists false (stop {p} h) = none {i = p} (λ r k s. let t = looks-in (s .looks) in omega arith)
   lists true (step l d k w) =
       let u = ends-after d in
       moved (omega arith) (λ r i s. let t = past d (s .looks) in (looks-in t .0, record { looks = t; no-shift = s .no-shift })) (λ r s. record { looks = passed d (s .looks); no-shift = s .no-shift }) (lists false w)
@@ -161,14 +172,13 @@ module _ (m : List ℕ) where
       (λ r s. record { looks = onward n d (s .looks); no-shift = s .no-shift }) (lists false w))))
 
   -- the elements that count, where all of them are whole
-  pub ListsIn : ℕ → Split → Type 0
+  abbrev pub ListsIn : ℕ → Split → Type 0
   ListsIn p cut = Unit {0}
   ListsIn p (whole es) = Lists (Plain p false) p (counted false es)
 
+  all-in : (p : ℕ) (s : Split) → WalkIn p s → ListsIn p s
+  all-in p cut w = tt
+  all-in p (whole es) w = lists false w
+
   pub lists-in : (p : ℕ) → ListsIn p (elements p 0 (drop p m))
-  unfolding ListsIn
-  lists-in p = go _ (walk p)
-    where
-      go : (s : Split) → WalkIn p s → ListsIn p s
-      go cut w = tt
-      go (whole es) w = lists false w
+  lists-in p = all-in p (elements p 0 (drop p m)) (walk p)

@@ -1,3 +1,4 @@
 pub mod Promises
 pub mod OneReply
 pub mod Ours
+pub mod ReadingDemands
