@@ -7,3 +7,4 @@ pub mod Promises
 pub mod OneReply
 pub mod Walk
 pub mod Given
+pub mod Decided
