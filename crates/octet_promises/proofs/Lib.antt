@@ -8,3 +8,4 @@ pub mod OneReply
 pub mod Walk
 pub mod Given
 pub mod Decided
+pub mod Behind

@@ -122,7 +122,7 @@ module _ (m : List ℕ) where
   past : {p q r : ℕ} → Ends m p q → Looks m p true r → Looks m q false r
   past d (passed d' s) = rw (ends-one d d') s
 
-  locked : {p r : ℕ} → Locking (getD m p 0) → Looks m p false r → r ≡ p
+  pub locked : {p r : ℕ} → Locking (getD m p 0) → Looks m p false r → r ≡ p
   locked l (here h) = refl
   locked l (shifted n d s) = absurd (omega arith)
   locked l (onward n d s) = absurd (not-locking n l)
