@@ -32,7 +32,8 @@ use Rattle.octet_promises.specs.Ours.{start, SaysCause, SaysComponent, S
 use Rattle.octet_promises.specs.Ours as ours
 use Rattle.octet_promises.specs.ReadingDemands.{HasReference, HasFlag, set, clear, HasHeader, Gives, GivesOne, DemandsOfReading}
 use Rattle.octet_promises.specs.ReadingDemands as demand
-use Rattle.octet_promises.proofs.Nine.{kind-octet, names}
+use Rattle.octet_promises.proofs.Nine.{kind-octet}
+use Rattle.octet_promises.proofs.Ways.{read-by}
 use Rattle.octet_promises.proofs.Walk.{ListsIn, lists-in}
 use Rattle.octet_promises.proofs.Given.{single-octet, gives-cause, gives-single, gives-place, gives-facilities}
 use Rattle.octet_promises.proofs.Promises.{reads}
@@ -64,25 +65,10 @@ module _ (m : List ℕ) where
         user = gives-place m (counted false es) l;
       }
 
-  given-typed : (w : Width) → getD m 1 0 ≡ widthOf w → (t : Typed) → kindOf (getD m (widthOf w + 2) 0) ≡ t → Given (typedOf w m t)
-  given-typed w e Typed.Unknown u = tt
-  given-typed w e (Typed.Known k) u =
-      given-split (headerOf w m k) _ (record { reference = has-reference w e; flag = has-flag _ refl; kind = rw e (names _ u) }) (rw (← e) (lists-in m (start m)))
-
-  given-headed : (w : Width) → getD m 1 0 ≡ widthOf w → Given (headedOf w m)
-  unfolding headedOf
-  given-headed w e = by-cond Given (ltb (length m) (widthOf w + 3)) (λ _. tt) (λ _. given-typed w e _ refl)
-
   given : Given (readOf m)
-  unfolding readOf
   given =
-      by-cond Given (ltb 260 (length m)) (λ _. tt)
-      (λ _. by-cond Given (ltb (length m) 1) (λ _. tt)
-      (λ _. by-cond Given (eqb (getD m 0 0) 8)
-      (λ _. by-cond Given (ltb (length m) 2) (λ _. tt)
-      (λ _. by-cond Given (eqb (getD m 1 0) 1) (λ t. given-headed Width.One (eqb-true _ _ t))
-      (λ _. by-cond Given (eqb (getD m 1 0) 2) (λ t. given-headed Width.Two (eqb-true _ _ t)) (λ _. tt))))
-      (λ _. tt)))
+      read-by m Given (λ f. tt)
+      (λ w k e i. given-split (headerOf w m k) _ (record { reference = has-reference w e; flag = has-flag _ refl; kind = i }) (lists-in m (start m)))
 
 pub meets : DemandsOfReading readOf
 meets = record { numbers = reads; gives = λ m r e. rw e at (given m) }

@@ -1,4 +1,5 @@
 pub mod Nine
+pub mod Ways
 pub mod Table
 pub mod Whole
 pub mod Range
@@ -9,3 +10,4 @@ pub mod Walk
 pub mod Given
 pub mod Decided
 pub mod Behind
+pub mod Others

@@ -2,3 +2,4 @@ pub mod Promises
 pub mod OneReply
 pub mod Ours
 pub mod ReadingDemands
+pub mod OtherReaders
