@@ -1,32 +1,28 @@
 -- Our reader meets what is demanded of reading, and whatever meets it is ours.
-use Prim.Native.Nat.{ℕ, zero, suc, _+_, _<_, _≤_}
+use Prim.Native.Nat.{ℕ, zero, suc}
 use mathlib.Core.List.{List, [], _∷_}
 use mathlib.Core.Bool.{Bool, true, false, cond}
 use mathlib.Core.Path.{_≡_, refl, sym, ap, ap₂, _∙_}
 use native.Mathlib.Omega.{arith}
-use borrow.Author.Tests.{leb-true, leb-false, eqb-true, eqb-false}
-use lib.ListN.{length, getD, drop}
-use lib.Dec.{ltb, leb, eqb}
+use borrow.Author.Tests.{leb-true, leb-false}
+use lib.ListN.{getD}
+use lib.Dec.{leb, eqb}
 use Rattle.cause.specs.declared.Cause.{Cause}
 use Rattle.facility.specs.declared.Component.{Component}
-use Rattle.facility.specs.declared.Facility.{Facility}
 use Rattle.message_types.specs.declared.Kind.{Kind}
-use Rattle.message_types.specs.declared.Typed.{Typed}
-use Rattle.message_types.specs.Kind.{kindOf}
 use Rattle.message_fields.specs.declared.Width.{Width}
 use Rattle.message_fields.specs.declared.Single.{Single}
 use Rattle.message_fields.specs.declared.Facilities.{Facilities}
 use Rattle.message_fields.specs.declared.Header.{Header}
 use Rattle.message_fields.specs.declared.Place.{Place}
-use Rattle.message_fields.specs.declared.Reading.{Reading}
 use Rattle.message_fields.specs.declared.Fault.{Fault}
 use Rattle.message_fields.specs.declared.Read.{Read}
 use Rattle.message_fields.specs.Numbers.{faultNumber, readNumber}
 use Rattle.message_fields.specs.Width.{widthOf}
-use Rattle.elements.specs.Elements.{Split, cut, whole, elements, counted}
+use Rattle.elements.specs.Elements.{Split, cut, whole, counted}
 use Rattle.elements.specs.Meaning.{firstThree, readingOf, takenFrom}
 use Rattle.elements.specs.Scan.{listed}
-use Rattle.message.specs.Reading.{referenceOf, headerOf, typedOf, headedOf, readOf}
+use Rattle.message.specs.Reading.{referenceOf, headerOf, readOf}
 use Rattle.octet_promises.specs.Promises.{IsKind}
 use Rattle.octet_promises.specs.Ours.{start, SaysCause, SaysComponent, SaysPlace, SaysSingle, Next, Silent, First, first, none, Three, silent}
 use Rattle.octet_promises.specs.Ours as ours
@@ -37,7 +33,6 @@ use Rattle.octet_promises.proofs.Ways.{read-by}
 use Rattle.octet_promises.proofs.Walk.{ListsIn, lists-in}
 use Rattle.octet_promises.proofs.Given.{single-octet, gives-cause, gives-single, gives-place, gives-facilities}
 use Rattle.octet_promises.proofs.Promises.{reads}
-use Rattle.logic.proofs.Decide.{by-cond}
 
 -- MEETS, from the elements back to the first octet
 module _ (m : List ℕ) where

@@ -1,12 +1,12 @@
 -- What the definition gives back of the elements that count is what they say by their places.
-use Prim.Native.Nat.{ℕ, suc, _+_, _<_, _≤_}
+use Prim.Native.Nat.{ℕ, suc, _<_, _≤_}
 use mathlib.Core.List.{List, [], _∷_}
 use mathlib.Core.Bool.{Bool, true, false}
 use mathlib.Core.Logic.{_⊎_, inl, inr}
 use mathlib.Core.Path.{_≡_, refl, sym, ap, _∙_}
 use native.Mathlib.Omega.{arith}
 use borrow.Author.Tests.{leb-true, leb-false, eqb-true, eqb-false}
-use lib.ListN.{length, getD}
+use lib.ListN.{getD}
 use lib.Dec.{leb, eqb}
 use Rattle.cause.specs.declared.Cause.{Cause}
 use Rattle.cause.specs.Element.{causeOf}
@@ -16,12 +16,11 @@ use Rattle.facility.specs.Forms.{facilityOf}
 use Rattle.message_types.specs.declared.Kind.{Kind}
 use Rattle.message_types.specs.Kind.{classOf}
 use Rattle.message_fields.specs.declared.Single.{Single}
-use Rattle.message_fields.specs.declared.Facilities.{Facilities}
 use Rattle.message_fields.specs.declared.Place.{Place}
 use Rattle.elements.specs.Elements.{Element}
 use Rattle.elements.specs.Single.{moreIn, levelIn, singleOf, orSingle}
 use Rattle.elements.specs.Meaning.{firstSingle, firstCause, firstPlace, andSays, components, firstThree}
-use Rattle.octet_promises.specs.Ours.{NoShift, Looks, Ours, start, bodyAt, SaysCause, SaysComponent, SaysPlace, IsSingle, more, ready, notReady, SaysSingle, Next, Silent, First, first, none, Three, silent, one, two, three, GivesCause, GivesSingle, GivesFacilities, GivesPlace}
+use Rattle.octet_promises.specs.Ours.{NoShift, Ours, start, bodyAt, SaysCause, SaysComponent, SaysPlace, IsSingle, more, ready, notReady, SaysSingle, Next, Silent, First, first, none, Three, silent, one, two, three, GivesCause, GivesSingle, GivesFacilities, GivesPlace}
 use Rattle.octet_promises.proofs.Walk.{Stands, Lists, Plain}
 use Rattle.octet_promises.proofs.Walk as walk
 use Rattle.logic.proofs.Decide.{by-cond}

@@ -1,29 +1,23 @@
 -- Readers that go by other shifts are shut out, each by one message.
-use Prim.Native.Nat.{ℕ, _+_}
+use Prim.Native.Nat.{ℕ}
 use mathlib.Core.List.{List, [], _∷_, _++_}
-use mathlib.Core.Bool.{Bool, true, false, cond}
+use mathlib.Core.Bool.{Bool, true, false}
 use mathlib.Core.Path.{_≡_, refl, ap}
 use native.Mathlib.Omega.{arith}
-use borrow.Author.Tests.{eqb-true}
-use lib.ListN.{length, getD, drop}
-use lib.Dec.{ltb, eqb}
+use lib.ListN.{drop}
 use Rattle.cause.specs.declared.Cause.{Cause}
 use Rattle.cause.specs.Element.{causeOf}
-use Rattle.message_types.specs.declared.Typed.{Typed}
 use Rattle.message_types.specs.Kind.{kindOf}
-use Rattle.message_fields.specs.declared.Width.{Width}
 use Rattle.message_fields.specs.declared.Header.{Header}
 use Rattle.message_fields.specs.declared.Read.{Read}
-use Rattle.message_fields.specs.Width.{widthOf}
-use Rattle.elements.specs.Elements.{Element, Split, cut, whole, then, elements, locking, shifting, counted}
+use Rattle.elements.specs.Elements.{Element, Split, cut, whole, then, elements, counted}
 use Rattle.elements.specs.Meaning.{firstCause, readingOf, takenFrom}
-use Rattle.message.specs.Reading.{headerOf, typedOf, headedOf, readOf}
+use Rattle.message.specs.Reading.{headerOf, headedOf, readOf}
 use Rattle.octet_promises.specs.Ours.{start}
 use Rattle.octet_promises.specs.ReadingDemands.{DemandsOfReading}
-use Rattle.octet_promises.specs.OtherReaders.{Shifts, countedBy, again, readBy, ourShifts, ShiftsBind}
+use Rattle.octet_promises.specs.OtherReaders.{countedBy, again, readBy, ourShifts, ShiftsBind}
 use Rattle.octet_promises.proofs.Ways.{read-by}
 use Rattle.octet_promises.proofs.Decided.{decided}
-use Rattle.logic.proofs.Decide.{by-cond}
 
 -- with the paper's octets it is our reader
 same-counted : (b : Bool) (es : List Element) → countedBy ourShifts b es ≡ counted b es

@@ -17,7 +17,7 @@ use Rattle.message_fields.specs.declared.Header.{Header}
 use Rattle.message_fields.specs.declared.Fault.{Fault}
 use Rattle.message_fields.specs.declared.Read.{Read}
 use Rattle.message_types.specs.Kind.{kindOf}
-use Rattle.elements.specs.Elements.{Element, Split, cut, whole, then, elements, isWhole}
+use Rattle.elements.specs.Elements.{Split, cut, whole, elements, isWhole}
 use Rattle.elements.specs.Meaning.{takenFrom}
 use Rattle.message.specs.Reading.{headerOf, typedOf, headedOf, readOf}
 use Rattle.message_fields.specs.Numbers.{faultNumber, readNumber}

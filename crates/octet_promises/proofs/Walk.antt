@@ -2,14 +2,14 @@
 use Prim.Native.Nat.{ℕ, zero, suc, _+_, _-_, _<_, _≤_}
 use mathlib.Core.List.{List, [], _∷_}
 use mathlib.Core.Bool.{Bool, true, false, _&&_, true≢false}
-use mathlib.Core.Logic.{_⊎_, inl, inr}
-use mathlib.Core.Path.{_≡_, refl, sym, ap, _∙_}
+use mathlib.Core.Logic.{inl, inr}
+use mathlib.Core.Path.{_≡_, refl}
 use native.Mathlib.Omega.{arith}
-use borrow.Author.Tests.{leb-true, leb-false, le-leb, lt-leb}
-use lib.ListN.{length, getD, take, drop, length-drop}
+use borrow.Author.Tests.{leb-true, leb-false, le-leb}
+use lib.ListN.{length, getD, drop, length-drop}
 use lib.Seq.{length-take-le}
 use lib.Dec.{leb}
-use Rattle.elements.specs.Elements.{Element, element, Split, cut, whole, then, elements, locking, shifting, counted, between}
+use Rattle.elements.specs.Elements.{Element, Split, cut, whole, then, elements, locking, shifting, counted, between}
 use Rattle.octet_promises.specs.Ours.{Ends, alone, lengthy, Locking, NonLocking, NoShift, Looks, here, passed, shifted, onward, bodyAt}
 use Rattle.elements.proofs.Splitting.{none-left, ends-alone, ends-lengthy, ends-cut}
 use Rattle.logic.proofs.Decide.{by-cond}

@@ -8,24 +8,20 @@ use native.Mathlib.Numerals.{add-one}
 use borrow.Author.Tests.{leb-true, leb-false, eqb-true, le-leb}
 use lib.ListN.{length, getD, take, drop, length-drop}
 use lib.Seq.{length-take-le, drop-drop, getD-drop}
-use lib.Dec.{ltb, leb, eqb}
-use Rattle.message_types.specs.declared.Typed.{Typed}
-use Rattle.message_fields.specs.declared.Width.{Width}
+use lib.Dec.{leb, eqb}
 use Rattle.message_fields.specs.declared.Header.{Header}
 use Rattle.message_fields.specs.declared.Place.{Place}
 use Rattle.message_fields.specs.declared.Read.{Read}
-use Rattle.message_types.specs.Kind.{kindOf}
 use Rattle.elements.specs.Elements.{element, Split, cut, whole, then, elements, locking, shifting, counted}
 use Rattle.elements.specs.Elements as el
 use Rattle.elements.specs.Meaning.{firstPlace, readingOf, takenFrom}
-use Rattle.message.specs.Reading.{headerOf, typedOf, headedOf, readOf}
+use Rattle.message.specs.Reading.{headerOf, readOf}
 use Rattle.message.specs.Parts.{placeIn, userUserOf}
 use Rattle.octet_promises.specs.Promises as promise
 use Rattle.octet_promises.specs.Ours.{start}
 use Rattle.octet_promises.proofs.Ways.{read-by}
 use Rattle.elements.proofs.Splitting.{short}
 use Rattle.logic.proofs.Decide.{by-cond}
-use Rattle.message_fields.specs.Width.{widthOf}
 
 module _ (m : List ℕ) where
   -- an element with a length lies in m as it was split off
