@@ -20,10 +20,10 @@ use Rattle.message_fields.specs.declared.Reading.{Reading}
 use Rattle.message_fields.specs.declared.Read.{Read}
 use Rattle.octet_promises.specs.Ours.{Ends, alone, lengthy, Locking, NonLocking, Looks, here, passed, shifted, onward, start, Ours, bodyAt, SaysCause, SaysComponent, SaysPlace, SaysSingle, Next, Silent, First, first, none, Three, silent}
 use Rattle.octet_promises.specs.Ours as ours
-use Rattle.octet_promises.specs.ReadingDemands.{HasReference, HasFlag, set, clear, HasHeader, Gives, DemandsOfReading, BehindLock, BehindShift}
+use Rattle.octet_promises.specs.ReadingDemands.{HasReference, HasFlag, set, clear, HasHeader, Gives, DemandsOfReading, BehindLock, BehindShift, OurReading}
 use Rattle.octet_promises.specs.ReadingDemands as demand
 use Rattle.octet_promises.proofs.Walk.{ends-one, ends-after, looks-in, not-shifting, locked}
-use Rattle.octet_promises.proofs.Decided.{gives-one}
+use Rattle.octet_promises.proofs.Decided.{meets, gives-one, each-one, decided}
 
 -- an element starts before the next one that the scan comes to
 stepped : {m : List ℕ} {a q p : ℕ} {b : Bool} → Ends m a q → Looks m q b p → (a < p) × (q ≤ p)
@@ -214,8 +214,8 @@ module _ (m n : List ℕ) (p : ℕ) (o : Ours m p) (same : take (p + 1) m ≡ ta
 
   over-from : ((r : ℕ) → Looks m p false r → Looks n p false r × Alike m n r) → Over m n
   over-from base = λ r s.
-    let t = follow m n (p + 1) same p (omega arith) base o s in
-    (rw (header-front 1 (omega arith)) at (t .0), t .1)
+      let t = follow m n (p + 1) same p (omega arith) base o s in
+      (rw (header-front 1 (omega arith)) at (t .0), t .1)
 
   over-lock : Locking (getD m p 0) → Over m n
   over-lock l = over-from (λ r s. rw (locked m l s) (at-shift (l .0)))
@@ -253,3 +253,6 @@ behind-shift g d m n p q r s o l same x y rest e f =
     let to = over-shift m n p o same l q x y rest in
     let t = to p o in
     one-reading g d m n r s (header-front m n p o same) to (over-shift n m p (t .0) (sym same) (rw (t .1 .octet) at l) q y x (sym rest)) e f
+
+pub our-reading : OurReading
+our-reading = record { meets = meets; decided = decided; one = each-one; lock = behind-lock; shift = behind-shift }

@@ -24,9 +24,9 @@ use Rattle.elements.specs.Meaning.{firstThree, readingOf, takenFrom}
 use Rattle.elements.specs.Scan.{listed}
 use Rattle.message.specs.Reading.{referenceOf, headerOf, readOf}
 use Rattle.octet_promises.specs.Promises.{IsKind}
-use Rattle.octet_promises.specs.Ours.{start, SaysCause, SaysComponent, SaysPlace, SaysSingle, Next, Silent, First, first, none, Three, silent}
+use Rattle.octet_promises.specs.Ours.{start, SaysCause, SaysComponent, SaysPlace, SaysSingle, Next, Silent, First, first, none, Three, silent, GivesCause, GivesSingle, GivesFacilities, GivesPlace}
 use Rattle.octet_promises.specs.Ours as ours
-use Rattle.octet_promises.specs.ReadingDemands.{HasReference, HasFlag, set, clear, HasHeader, Gives, GivesOne, DemandsOfReading}
+use Rattle.octet_promises.specs.ReadingDemands.{HasReference, HasFlag, set, clear, HasHeader, Gives, DemandsOfReading, AtMostOne, EachOne}
 use Rattle.octet_promises.specs.ReadingDemands as demand
 use Rattle.octet_promises.proofs.Nine.{kind-octet}
 use Rattle.octet_promises.proofs.Ways.{read-by}
@@ -92,8 +92,8 @@ module _ {A : Type 0} (says : ℕ → A → Type 0) (same : (p : ℕ) (a b : A) 
 cause-one : (m : List ℕ) (p : ℕ) (a b : Cause) → SaysCause m p a → SaysCause m p b → a ≡ b
 cause-one m p a b s t = sym (s .says) ∙ t .says
 
-place-said : (m : List ℕ) (p : ℕ) (a b : Place) → SaysPlace m p a → SaysPlace m p b → a ≡ b
-place-said m p a b s t = sym (s .says) ∙ t .says
+place-says : (m : List ℕ) (p : ℕ) (a b : Place) → SaysPlace m p a → SaysPlace m p b → a ≡ b
+place-says m p a b s t = sym (s .says) ∙ t .says
 
 single-one : (m : List ℕ) (k : Kind) (p : ℕ) (a b : Single) → SaysSingle m k p a → SaysSingle m k p b → a ≡ b
 single-one m k p a b s t = sym (single-octet (s .says)) ∙ single-octet (t .says)
@@ -126,9 +126,8 @@ listed-first (Facilities.One a) = refl
 listed-first (Facilities.Two a b) = refl
 listed-first (Facilities.Three a b c) = refl
 
-facilities-one : (m : List ℕ) (f g : Facilities) → Three (SaysComponent m) (start m) f → Three (SaysComponent m) (start m) g → f ≡ g
-facilities-one m f g s t =
-    sym (listed-first f) ∙ ap firstThree (upto-one (component-one m) (upto-three s) (upto-three t)) ∙ listed-first g
+facilities-one : (m : List ℕ) → AtMostOne (GivesFacilities m)
+facilities-one m f g s t = sym (listed-first f) ∙ ap firstThree (upto-one (component-one m) (upto-three s) (upto-three t)) ∙ listed-first g
 
 -- the header
 reference-one : {m : List ℕ} {v w : Width} {a b : ℕ} → HasReference m v a → HasReference m w b → (v ≡ w) × (a ≡ b)
@@ -146,22 +145,41 @@ flag-one (clear e) (clear f) = refl
 kind-one : {x : ℕ} {j k : Kind} → IsKind x j → IsKind x k → j ≡ k
 kind-one s t = cc (kind-octet s, kind-octet t)
 
-header-one : (m : List ℕ) (g h : Header) → HasHeader m g → HasHeader m h → g ≡ h
+header-one : (m : List ℕ) → AtMostOne (HasHeader m)
 header-one m g h s t =
     let r = reference-one (s .reference) (t .reference) in
     let f = flag-one (s .flag) (t .flag) in
     let k = kind-one (s .kind) (t .kind) in
     λ i. record { width = r .0 i; flag = f i; reference = r .1 i; kind = k i }
 
-pub gives-one : GivesOne
+singles-one : (m : List ℕ) (k : Kind) → AtMostOne (GivesSingle m k)
+singles-one m k a b s t = first-one (SaysSingle m k) (single-one m k) s t
+
+causes-one : (m : List ℕ) → AtMostOne (GivesCause m)
+causes-one m a b s t = first-one (SaysCause m) (cause-one m) s t
+
+places-one : (m : List ℕ) → AtMostOne (GivesPlace m)
+places-one m a b s t = first-one (SaysPlace m) (place-says m) s t
+
+pub gives-one : (m : List ℕ) → AtMostOne (Gives m)
 gives-one m r s x y =
     let h = header-one m (r .message .header) (s .message .header) (x .header) (y .header) in
-    let k = r .message .header .kind in
-    let a = first-one (SaysSingle m k) (single-one m k) {b = s .message .single} (x .single) (rw (ap (λ (h : Header). h .kind) h) (y .single)) in
-    let c = first-one (SaysCause m) (cause-one m) (x .cause) (y .cause) in
+    let a = singles-one m (r .message .header .kind) (r .message .single) (s .message .single) (x .single) (rw (ap (λ (h : Header). h .kind) h) (y .single)) in
+    let c = causes-one m (r .message .cause) (s .message .cause) (x .cause) (y .cause) in
     let f = facilities-one m (r .message .facility) (s .message .facility) (x .facility) (y .facility) in
-    let u = first-one (SaysPlace m) (place-said m) (x .user) (y .user) in
+    let u = places-one m (r .user) (s .user) (x .user) (y .user) in
     λ i. record { message = record { header = h i; single = a i; cause = c i; facility = f i }; user = u i }
+
+pub each-one : (m : List ℕ) → EachOne m
+each-one m =
+    record {
+      header = header-one m;
+      single = singles-one m;
+      cause = causes-one m;
+      facility = facilities-one m;
+      user = places-one m;
+      all = gives-one m;
+    }
 
 -- DECIDED. A fault is known by its number.
 faultFor : ℕ → Fault

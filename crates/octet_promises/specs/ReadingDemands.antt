@@ -1,14 +1,15 @@
--- What is demanded of any reader, whatever it is made of. `proofs/Decided.antt` shows that ours meets it, and that
--- whatever meets it is ours.
+-- What is demanded of any reader, whatever it is made of.
 use Prim.Native.Nat.{ℕ, _+_, _*_, _%_, _<_, _≤_}
 use mathlib.Core.List.{List}
 use mathlib.Core.Bool.{Bool, true, false}
 use mathlib.Core.Path.{_≡_}
 use lib.ListN.{getD, take, drop}
+use Rattle.message_types.specs.declared.Kind.{Kind}
 use Rattle.message_fields.specs.declared.Width.{Width}
 use Rattle.message_fields.specs.declared.Header.{Header}
 use Rattle.message_fields.specs.declared.Reading.{Reading}
 use Rattle.message_fields.specs.declared.Read.{Read}
+use Rattle.message.specs.Reading.{readOf}
 use Rattle.octet_promises.specs.Promises.{IsKind, Numbers}
 use Rattle.octet_promises.specs.Ours.{Ends, Locking, NonLocking, Ours, GivesCause, GivesSingle, GivesFacilities, GivesPlace}
 
@@ -27,7 +28,7 @@ pub record HasHeader (m : List ℕ) (h : Header) : Type 0 where
   pub flag : HasFlag m (h .flag)
   pub kind : IsKind (getD m (getD m 1 0 + 2) 0) (h .kind)
 
--- a message that is taken says this, and with it all that is given back is decided
+-- what is given back of a message that is taken
 pub record Gives (m : List ℕ) (r : Reading) : Type 0 where
   pub header : HasHeader m (r .message .header)
   pub single : GivesSingle m (r .message .header .kind) (r .message .single)
@@ -39,9 +40,17 @@ pub record DemandsOfReading (g : List ℕ → Read) : Type 0 where
   pub numbers : Numbers g
   pub gives : (m : List ℕ) (r : Reading) → g m ≡ Read.Taken r → Gives m r
 
--- each message says one thing at most
-abbrev pub GivesOne : Type 0
-GivesOne = (m : List ℕ) (r s : Reading) → Gives m r → Gives m s → r ≡ s
+-- what each of these says of a message is one thing at most
+abbrev pub AtMostOne : {A : Type 0} → (A → Type 0) → Type 0
+AtMostOne {A} P = (a b : A) → P a → P b → a ≡ b
+
+pub record EachOne (m : List ℕ) : Type 0 where
+  pub header : AtMostOne (HasHeader m)
+  pub single : (k : Kind) → AtMostOne (GivesSingle m k)
+  pub cause : AtMostOne (GivesCause m)
+  pub facility : AtMostOne (GivesFacilities m)
+  pub user : AtMostOne (GivesPlace m)
+  pub all : AtMostOne (Gives m)
 
 -- BEHIND A LOCK. What stands behind a locking shift that counts changes nothing but whether the lengths are right: two
 -- messages that are the same up to it, and are both taken, give the same.
@@ -58,3 +67,11 @@ BehindShift g =
     Ours m p → NonLocking (getD m p 0) → take (p + 1) m ≡ take (p + 1) n →
     Ends m (p + 1) q → Ends n (p + 1) q → drop q m ≡ drop q n →
     g m ≡ Read.Taken r → g n ≡ Read.Taken s → r ≡ s
+
+-- OUR READER meets what is demanded of reading, and it is the only one.
+pub record OurReading : Type 0 where
+  pub meets : DemandsOfReading readOf
+  pub decided : (g : List ℕ → Read) → DemandsOfReading g → (m : List ℕ) → g m ≡ readOf m
+  pub one : (m : List ℕ) → EachOne m
+  pub lock : (g : List ℕ → Read) → DemandsOfReading g → BehindLock g
+  pub shift : (g : List ℕ → Read) → DemandsOfReading g → BehindShift g
