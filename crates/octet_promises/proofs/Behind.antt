@@ -131,7 +131,7 @@ module _ {A : Type 0} {says says' : ℕ → A → Type 0} (to : (r : ℕ) (a : A
   silent-over s = λ q b h t. s q b h (back q b t)
 
   next-over : {i p : ℕ} {a : A} → Next says i p a → Next says' i p a
-  next-over {p = p} {a} s = record { onward = s .onward; said = to p a (s .said); before = λ q b h k t. s .before q b h k (back q b t) }
+  next-over {p = p} {a} s = record { since = s .since; said = to p a (s .said); before = λ q b h k t. s .before q b h k (back q b t) }
 
   first-over : {absent : A} {i : ℕ} {a : A} → First says absent i a → First says' absent i a
   first-over (first s) = first (next-over s)

@@ -70,13 +70,13 @@ meets = record { numbers = reads; gives = λ m r e. rw e at (given m) }
 
 -- ONE. The first that says anything stands at one place, and says one thing.
 not-silent : {A : Type 0} {says : ℕ → A → Type 0} {i p : ℕ} {a : A} → Next says i p a → Silent says i → ⊥
-not-silent {p = p} {a} s n = n p a (s .onward) (s .said)
+not-silent {p = p} {a} s n = n p a (s .since) (s .said)
 
 module _ {A : Type 0} (says : ℕ → A → Type 0) (same : (p : ℕ) (a b : A) → says p a → says p b → a ≡ b) where
   place-one : {i p q : ℕ} {a b : A} → Next says i p a → Next says i q b → (x y : Bool) → leb p q ≡ x → leb q p ≡ y → p ≡ q
   place-one {p = p} {q} s t true true e f = let u = leb-true p q e in let v = leb-true q p f in omega arith
-  place-one {p = p} {q} {a} {b} s t true false e f = absurd (t .before p a (s .onward) (leb-false q p f) (s .said))
-  place-one {p = p} {q} {a} {b} s t false y e f = absurd (s .before q b (t .onward) (leb-false p q e) (t .said))
+  place-one {p = p} {q} {a} {b} s t true false e f = absurd (t .before p a (s .since) (leb-false q p f) (s .said))
+  place-one {p = p} {q} {a} {b} s t false y e f = absurd (s .before q b (t .since) (leb-false p q e) (t .said))
 
   next-one : {i p q : ℕ} {a b : A} → Next says i p a → Next says i q b → (p ≡ q) × (a ≡ b)
   next-one {p = p} {q} {a} {b} s t =

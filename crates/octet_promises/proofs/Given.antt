@@ -96,7 +96,7 @@ module _ (m : List ℕ) where
       later : {p : ℕ} {a : A} → Next says (suc n) p a → Next says i p a
       later x =
           record {
-            onward = let k = x .onward in omega arith;
+            since = let k = x .since in omega arith;
             said = x .said;
             before = λ q c k u t. x .before q c (beyond q c _ _ refl refl k t) u t;
           }
@@ -110,7 +110,7 @@ module _ (m : List ℕ) where
 
     -- the element at n is the first that says anything
     at-once : {i n : ℕ} {a : A} → i ≤ n → ((r : ℕ) → i ≤ r → r < n → P r → ⊥) → says n a → Next says i n a
-    at-once h b s = record { onward = h; said = s; before = λ q c k u t. b q k u (own q c t) }
+    at-once h b s = record { since = h; said = s; before = λ q c k u t. b q k u (own q c t) }
 
     turned : (absent : A) (f : List Element → A) {i : ℕ} (e : Element) (es : List Element) → i ≤ e .at → ((r : ℕ) → i ≤ r → r < e .at → P r → ⊥) → Turn f e es → First says absent (suc (e .at)) (f es) → First says absent i (f (e ∷ es))
     turned absent f e es h b (inl u) r = first (at-once h b u)

@@ -87,7 +87,7 @@ pub record SaysSingle (m : List ℕ) (k : Kind) (p : ℕ) (s : Single) : Type 0 
 
 -- the first from place i on that says anything stands at p and says a; none from there on says anything
 pub record Next {A : Type 0} (says : ℕ → A → Type 0) (i p : ℕ) (a : A) : Type 0 where
-  pub onward : i ≤ p
+  pub since : i ≤ p
   pub said : says p a
   pub before : (q : ℕ) (b : A) → i ≤ q → q < p → says q b → ⊥
 
