@@ -18,9 +18,13 @@ use Rattle.message_fields.specs.declared.Header.{Header}
 use Rattle.message_fields.specs.declared.Place.{Place}
 use Rattle.message_fields.specs.declared.Reading.{Reading}
 use Rattle.message_fields.specs.declared.Read.{Read}
+use Rattle.elements.specs.Elements.{then, elements, counted}
+use Rattle.elements.specs.Meaning.{firstPlace, readingOf, takenFrom}
+use Rattle.message_types.specs.Kind.{kindOf}
+use Rattle.message.specs.Reading.{headedOf, readOf}
 use Rattle.octet_promises.specs.Ours.{Ends, alone, lengthy, Locking, NonLocking, Looks, here, passed, shifted, onward, start, Ours, bodyAt, SaysCause, SaysComponent, SaysPlace, SaysSingle, Next, Silent, First, first, none, Three, silent}
 use Rattle.octet_promises.specs.Ours as ours
-use Rattle.octet_promises.specs.ReadingDemands.{HasReference, HasFlag, set, clear, HasHeader, Gives, DemandsOfReading, BehindLock, BehindShift, OurReading}
+use Rattle.octet_promises.specs.ReadingDemands.{HasReference, HasFlag, set, clear, HasHeader, Gives, DemandsOfReading, BehindLock, BehindShift, Met, OurReading}
 use Rattle.octet_promises.specs.ReadingDemands as demand
 use Rattle.octet_promises.proofs.Walk.{ends-one, ends-after, looks-in, not-shifting, locked}
 use Rattle.octet_promises.proofs.Decided.{meets, gives-one, each-one, decided}
@@ -254,5 +258,18 @@ behind-shift g d m n p q r s o l same x y rest e f =
     let t = to p o in
     one-reading g d m n r s (header-front m n p o same) to (over-shift n m p (t .0) (sym same) (rw (t .1 .octet) at l) q y x (sym rest)) e f
 
+-- the premises are met
+met : Met
+unfolding readOf headedOf kindOf elements then takenFrom readingOf counted firstPlace
+met =
+    record {
+      counts = λ s x. here {p = 4} (omega arith);
+      ends = λ s x h. lengthy h;
+      lock = (refl, refl);
+      other-lock = (refl, refl);
+      shift = refl;
+      other-shift = refl;
+    }
+
 pub our-reading : OurReading
-our-reading = record { meets = meets; decided = decided; one = each-one; lock = behind-lock; shift = behind-shift }
+our-reading = record { meets = meets; decided = decided; one = each-one; lock = behind-lock; shift = behind-shift; met = met }

@@ -20,12 +20,12 @@ use Rattle.octet_promises.proofs.Ways.{read-by}
 use Rattle.octet_promises.proofs.Decided.{decided}
 
 -- with the paper's octets it is our reader
-same-counted : (b : Bool) (es : List Element) → countedBy ourShifts b es ≡ counted b es
+same-counted : (es : List Element) (b : Bool) → countedBy ourShifts b es ≡ counted b es
 unfolding countedBy counted
-same-counted true [] = refl
-same-counted false [] = refl
-same-counted true (e ∷ es) = same-counted false es
-same-counted false (e ∷ es) = rw (same-counted true es, same-counted false es) refl
+same-counted [] true = refl
+same-counted [] false = refl
+same-counted (e ∷ es) true = same-counted es false
+same-counted (e ∷ es) false = rw (same-counted es true, same-counted es false) refl
 
 module _ (m : List ℕ) where
   -- what is taken is taken again
@@ -35,7 +35,7 @@ module _ (m : List ℕ) where
   again-split : (h : Header) (s : Split) → again ourShifts (takenFrom h s) s ≡ takenFrom h s
   unfolding takenFrom readingOf
   again-split h cut = refl
-  again-split h (whole es) = rw (same-counted false es) refl
+  again-split h (whole es) = rw (same-counted es false) refl
 
   same-reader : readBy ourShifts m ≡ readOf m
   unfolding readBy

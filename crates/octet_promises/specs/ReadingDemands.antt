@@ -1,15 +1,18 @@
 -- What is demanded of any reader, whatever it is made of.
 use Prim.Native.Nat.{ℕ, _+_, _*_, _%_, _<_, _≤_}
-use mathlib.Core.List.{List}
+use mathlib.Core.List.{List, [], _∷_}
 use mathlib.Core.Bool.{Bool, true, false}
 use mathlib.Core.Path.{_≡_}
 use lib.ListN.{getD, take, drop}
 use Rattle.message_types.specs.declared.Kind.{Kind}
 use Rattle.message_fields.specs.declared.Width.{Width}
 use Rattle.message_fields.specs.declared.Header.{Header}
+use Rattle.message_fields.specs.declared.Place.{Place}
 use Rattle.message_fields.specs.declared.Reading.{Reading}
 use Rattle.message_fields.specs.declared.Read.{Read}
+use Rattle.message_fields.specs.Numbers.{readNumber}
 use Rattle.message.specs.Reading.{readOf}
+use Rattle.message.specs.Parts.{placeIn}
 use Rattle.octet_promises.specs.Promises.{IsKind, Numbers}
 use Rattle.octet_promises.specs.Ours.{Ends, Locking, NonLocking, Ours, GivesCause, GivesSingle, GivesFacilities, GivesPlace}
 
@@ -68,6 +71,18 @@ BehindShift g =
     Ends m (p + 1) q → Ends n (p + 1) q → drop q m ≡ drop q n →
     g m ≡ Read.Taken r → g n ≡ Read.Taken s → r ≡ s
 
+-- MET. Messages that these two speak of: a DISCONNECT with a shift, then an element x, then a User-user element.
+abbrev pub behindOf : ℕ → ℕ → List ℕ
+behindOf shift x = 8 ∷ 1 ∷ 5 ∷ 0x45 ∷ shift ∷ x ∷ 1 ∷ 0x84 ∷ 0x7E ∷ 1 ∷ 4 ∷ []
+
+pub record Met : Type 0 where
+  pub counts : (shift x : ℕ) → Ours (behindOf shift x) 4
+  pub ends : (shift x : ℕ) → x < 0x80 → Ends (behindOf shift x) 5 8
+  pub lock : (placeIn (readOf (behindOf 0x90 0x08)) ≡ Place.Absent) × (readNumber (readOf (behindOf 0x90 0x08)) ≡ 0)
+  pub other-lock : (placeIn (readOf (behindOf 0x97 0x7E)) ≡ Place.Absent) × (readNumber (readOf (behindOf 0x97 0x7E)) ≡ 0)
+  pub shift : placeIn (readOf (behindOf 0x98 0x08)) ≡ Place.At 8 3
+  pub other-shift : placeIn (readOf (behindOf 0x9F 0x7E)) ≡ Place.At 8 3
+
 -- OUR READER meets what is demanded of reading, and it is the only one.
 pub record OurReading : Type 0 where
   pub meets : DemandsOfReading readOf
@@ -75,3 +90,4 @@ pub record OurReading : Type 0 where
   pub one : (m : List ℕ) → EachOne m
   pub lock : (g : List ℕ → Read) → DemandsOfReading g → BehindLock g
   pub shift : (g : List ℕ → Read) → DemandsOfReading g → BehindShift g
+  pub met : Met
