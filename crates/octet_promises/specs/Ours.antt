@@ -74,8 +74,8 @@ pub record SaysPlace (m : List ℕ) (p : ℕ) (u : Place) : Type 0 where
   pub octet : getD m p 0 ≡ 0x7E
   pub says : Place.At p (getD m (p + 1) 0 + 2) ≡ u
 
--- "More data belongs to USER INFORMATION only, and a congestion level to CONGESTION CONTROL; elsewhere the reader passes
--- them over."
+-- "More data belongs to USER INFORMATION only, and a congestion level to CONGESTION CONTROL; elsewhere the reader
+-- passes them over."
 pub data IsSingle : Kind → ℕ → Single → Type 0 where
   more : IsSingle Kind.UserInformation 0xA0 Single.MoreData
   ready : IsSingle Kind.CongestionControl 0xB0 Single.Ready

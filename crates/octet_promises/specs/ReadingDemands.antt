@@ -16,8 +16,8 @@ use Rattle.message.specs.Parts.{placeIn}
 use Rattle.octet_promises.specs.Promises.{IsKind, Numbers}
 use Rattle.octet_promises.specs.Ours.{Ends, Locking, NonLocking, Ours, GivesCause, GivesSingle, GivesFacilities, GivesPlace}
 
--- "A message is 08, the reference length (1 or 2), the reference (its top bit is the flag, given back apart), the type":
--- of the reference's octets the first stands at place 2, and of two the second at place 3
+-- "A message is 08, the reference length (1 or 2), the reference (its top bit is the flag, given back apart), the type,
+-- the elements.": of the reference's octets the first stands at place 2, and of two the second at place 3
 pub data HasReference (m : List ℕ) : Width → ℕ → Type 0 where
   one : getD m 1 0 ≡ 1 → HasReference m Width.One (getD m 2 0 % 128)
   two : getD m 1 0 ≡ 2 → HasReference m Width.Two (getD m 2 0 % 128 * 256 + getD m 3 0)
@@ -62,8 +62,8 @@ BehindLock g =
     (m n : List ℕ) (p : ℕ) (r s : Reading) →
     Ours m p → Locking (getD m p 0) → take (p + 1) m ≡ take (p + 1) n → g m ≡ Read.Taken r → g n ≡ Read.Taken s → r ≡ s
 
--- BEHIND A SHIFT. The element after a non-locking shift that counts changes nothing: two messages that are the same up to
--- the shift and from that element's end on, and are both taken, give the same.
+-- BEHIND A SHIFT. The element after a non-locking shift that counts changes nothing: two messages that are the same up
+-- to the shift and from that element's end on, and are both taken, give the same.
 abbrev pub BehindShift : (List ℕ → Read) → Type 0
 BehindShift g =
     (m n : List ℕ) (p q : ℕ) (r s : Reading) →
