@@ -1,4 +1,5 @@
--- Readers that differ from ours in the shifts alone, and that what is demanded of reading shuts out.
+-- Readers that differ from ours in the shifts alone, and that what is demanded of reading shuts out;
+-- `proofs/Others.antt` has a message for each.
 use Prim.Native.Nat.{ℕ}
 use mathlib.Core.List.{List, [], _∷_}
 use mathlib.Core.Bool.{Bool, true, false, cond, _&&_}

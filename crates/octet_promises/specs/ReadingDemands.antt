@@ -1,4 +1,5 @@
--- What is demanded of any reader, whatever it is made of.
+-- What is demanded of any reader, whatever it is made of. `our-reading` in `proofs/Behind.antt` proves what is said of
+-- ours.
 use Prim.Native.Nat.{ℕ, _+_, _*_, _%_, _<_, _≤_}
 use mathlib.Core.List.{List, [], _∷_}
 use mathlib.Core.Bool.{Bool, true, false}
