@@ -1,5 +1,12 @@
+pub mod Nine
+pub mod Ways
 pub mod Table
 pub mod Whole
 pub mod Range
 pub mod Trip
 pub mod Promises
+pub mod Walk
+pub mod Given
+pub mod Decided
+pub mod Behind
+pub mod Others

@@ -10,17 +10,19 @@ use lib.ListN.{length, getD, take, drop, take-append-drop}
 use lib.Seq.{length-take-le}
 use lib.Dec.{ltb, leb, eqb}
 use Rattle.logic.specs.First.{Rows, end, row, First}
+use Rattle.message_types.specs.declared.Kind.{Kind}
 use Rattle.message_types.specs.declared.Typed.{Typed}
 use Rattle.message_fields.specs.declared.Width.{Width}
 use Rattle.message_fields.specs.declared.Header.{Header}
 use Rattle.message_fields.specs.declared.Fault.{Fault}
 use Rattle.message_fields.specs.declared.Read.{Read}
 use Rattle.message_types.specs.Kind.{kindOf}
-use Rattle.elements.specs.Elements.{Element, Split, cut, whole, then, elements, isWhole}
+use Rattle.elements.specs.Elements.{Split, cut, whole, elements, isWhole}
 use Rattle.elements.specs.Meaning.{takenFrom}
 use Rattle.message.specs.Reading.{headerOf, typedOf, headedOf, readOf}
 use Rattle.message_fields.specs.Numbers.{faultNumber, readNumber}
-use Rattle.octet_promises.specs.Promises.{Whole, none, alone, announced, readRows}
+use Rattle.octet_promises.specs.Promises.{Whole, none, alone, announced, IsKind, readRows}
+use Rattle.octet_promises.proofs.Nine.{kind-octet, names}
 use Rattle.elements.proofs.Splitting as split
 use Rattle.elements.proofs.Turns.{whole-then}
 use Rattle.logic.proofs.Decide.{by-cond}
@@ -69,7 +71,7 @@ abbrev on-elements : ℕ → List ℕ → Rows
 on-elements n m = row (Whole (drop (n + 3) m) → ⊥) 1 end
 
 abbrev on-type : ℕ → List ℕ → Rows
-on-type n m = row (kindOf (getD m (n + 2) 0) ≡ Typed.Unknown) 5 (on-elements n m)
+on-type n m = row ((k : Kind) → IsKind (getD m (n + 2) 0) k → ⊥) 5 (on-elements n m)
 
 abbrev on-reference : ℕ → List ℕ → Rows
 on-reference n m = row (length m < n + 3) 1 (on-type n m)
@@ -89,9 +91,9 @@ element-rows h p l cut e = inl ((λ w. true≢false (sym (splits w p) ∙ ap isW
 element-rows h p l (whole es) e = inr ((λ n. n (joins p 0 l (ap isWhole e) .1)), refl)
 
 typed-rows : (w : Width) (m : List ℕ) (t : Typed) → kindOf (getD m (widthOf w + 2) 0) ≡ t → First (on-type (widthOf w) m) (readNumber (typedOf w m t))
-typed-rows w m Typed.Unknown e = inl (e, refl)
+typed-rows w m Typed.Unknown e = inl ((λ k i. let z : _≡_ {A = ℕ} 0 1 = cc (e, kind-octet i) in absurd (omega arith)), refl)
 typed-rows w m (Typed.Known k) e =
-    inr ((λ u. let z : _≡_ {A = ℕ} 0 1 = cc (e, u) in absurd (omega arith)), element-rows (headerOf w m k) (widthOf w + 3) (drop (widthOf w + 3) m) _ refl)
+    inr ((λ u. u k (names _ e)), element-rows (headerOf w m k) (widthOf w + 3) (drop (widthOf w + 3) m) _ refl)
 
 headed-rows : (w : Width) (m : List ℕ) → First (on-reference (widthOf w) m) (readNumber (headedOf w m))
 unfolding headedOf

@@ -8,22 +8,20 @@ use native.Mathlib.Numerals.{add-one}
 use borrow.Author.Tests.{leb-true, leb-false, eqb-true, le-leb}
 use lib.ListN.{length, getD, take, drop, length-drop}
 use lib.Seq.{length-take-le, drop-drop, getD-drop}
-use lib.Dec.{ltb, leb, eqb}
-use Rattle.message_types.specs.declared.Typed.{Typed}
-use Rattle.message_fields.specs.declared.Width.{Width}
+use lib.Dec.{leb, eqb}
 use Rattle.message_fields.specs.declared.Header.{Header}
 use Rattle.message_fields.specs.declared.Place.{Place}
 use Rattle.message_fields.specs.declared.Read.{Read}
-use Rattle.message_types.specs.Kind.{kindOf}
 use Rattle.elements.specs.Elements.{element, Split, cut, whole, then, elements, locking, shifting, counted}
 use Rattle.elements.specs.Elements as el
 use Rattle.elements.specs.Meaning.{firstPlace, readingOf, takenFrom}
-use Rattle.message.specs.Reading.{headerOf, typedOf, headedOf, readOf}
+use Rattle.message.specs.Reading.{headerOf, readOf}
 use Rattle.message.specs.Parts.{placeIn, userUserOf}
 use Rattle.octet_promises.specs.Promises as promise
+use Rattle.octet_promises.specs.Ours.{start}
+use Rattle.octet_promises.proofs.Ways.{read-by}
 use Rattle.elements.proofs.Splitting.{short}
 use Rattle.logic.proofs.Decide.{by-cond}
-use Rattle.message_fields.specs.Width.{widthOf}
 
 module _ (m : List ℕ) where
   -- an element with a length lies in m as it was split off
@@ -121,25 +119,8 @@ module _ (m : List ℕ) where
   split-in h cut i = tt
   split-in h (whole es) i = place-in (counted false es) (counted-in false es i)
 
-  taken-in : (w : Width) (t : Typed) → PlaceIn (placeIn (typedOf w m t))
-  taken-in w Typed.Unknown = tt
-  taken-in w (Typed.Known k) = split-in (headerOf w m k) _ (elements-in (drop (widthOf w + 3) m) (widthOf w + 3) 0 refl)
-
-  headed-in : (w : Width) → PlaceIn (placeIn (headedOf w m))
-  unfolding headedOf
-  headed-in w = by-cond (λ (r : Read). PlaceIn (placeIn r)) (ltb (length m) (widthOf w + 3)) (λ _. tt) (λ _. taken-in w (kindOf (getD m (widthOf w + 2) 0)))
-
   read-in : PlaceIn (placeIn (readOf m))
-  unfolding readOf
-  read-in =
-      let P : Read → Type 0 = λ r. PlaceIn (placeIn r) in
-      by-cond P (ltb 260 (length m)) (λ _. tt)
-      (λ _. by-cond P (ltb (length m) 1) (λ _. tt)
-      (λ _. by-cond P (eqb (getD m 0 0) 8)
-      (λ _. by-cond P (ltb (length m) 2) (λ _. tt)
-      (λ _. by-cond P (eqb (getD m 1 0) 1) (λ _. headed-in Width.One)
-      (λ _. by-cond P (eqb (getD m 1 0) 2) (λ _. headed-in Width.Two) (λ _. tt))))
-      (λ _. tt)))
+  read-in = read-by m (λ (r : Read). PlaceIn (placeIn r)) (λ f. tt) (λ w k e i. split-in (headerOf w m k) _ (elements-in (drop (start m) m) (start m) 0 refl))
 
   pub stands : (p n : ℕ) → placeIn (readOf m) ≡ Place.At p n → Stands p n
   stands p n e = rw e at read-in

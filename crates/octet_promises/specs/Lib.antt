@@ -1,1 +1,4 @@
 pub mod Promises
+pub mod Ours
+pub mod ReadingDemands
+pub mod OtherReaders

@@ -13,14 +13,12 @@ use Rattle.memory.specs.Room.{wroteOf, leftOf}
 use Rattle.facility.specs.Facility.{invokeNumber}
 use Rattle.memory.specs.Numbers.{wroteNumber}
 use Rattle.message_types.specs.declared.Kind.{Kind}
-use Rattle.message_types.specs.declared.Typed.{Typed}
 use Rattle.message_fields.specs.declared.Width.{Width}
 use Rattle.message_fields.specs.declared.Single.{Single}
 use Rattle.message_fields.specs.declared.Facilities.{Facilities}
 use Rattle.message_fields.specs.declared.Message.{Message}
 use Rattle.message_fields.specs.declared.Place.{Place}
 use Rattle.message_fields.specs.declared.Read.{Read}
-use Rattle.message_types.specs.Kind.{kindOf}
 use Rattle.message.specs.Reading.{readOf}
 use Rattle.message.specs.Parts.{placeIn, userUserOf}
 use Rattle.writer.specs.Fitting.{messageFits}
@@ -34,6 +32,19 @@ pub data Whole : List ℕ → Type 0 where
   alone : {x : ℕ} {l : List ℕ} → 0x80 ≤ x → Whole l → Whole (x ∷ l)
   announced : {x : ℕ} (b l : List ℕ) → x < 0x80 → Whole l → Whole (x ∷ length b ∷ (b ++ l))
 
+-- "Nine types, hexadecimal: ALERTING 01, CALL PROCEEDING 02, SETUP 05, CONNECT 07, USER INFORMATION 20, DISCONNECT 45,
+-- RELEASE COMPLETE 5A, FACILITY 62, CONGESTION CONTROL 79."
+pub data IsKind : ℕ → Kind → Type 0 where
+  alerting : IsKind 0x01 Kind.Alerting
+  proceeding : IsKind 0x02 Kind.CallProceeding
+  setup : IsKind 0x05 Kind.Setup
+  connect : IsKind 0x07 Kind.Connect
+  information : IsKind 0x20 Kind.UserInformation
+  disconnect : IsKind 0x45 Kind.Disconnect
+  complete : IsKind 0x5A Kind.ReleaseComplete
+  facility : IsKind 0x62 Kind.Facility
+  congestion : IsKind 0x79 Kind.CongestionControl
+
 -- The table's numbers 1 to 5: "Reading gives 2 first, then the first fault from left to right." A message announces its
 -- protocol octet, its reference length, then its reference and type, and in each element its length and that many
 -- octets.
@@ -45,12 +56,15 @@ readRows m =
     (row (length m < 2) 1
     (row ((getD m 1 0 ≡ 1 → ⊥) × (getD m 1 0 ≡ 2 → ⊥)) 4
     (row (length m < getD m 1 0 + 3) 1
-    (row (kindOf (getD m (getD m 1 0 + 2) 0) ≡ Typed.Unknown) 5
+    (row ((k : Kind) → IsKind (getD m (getD m 1 0 + 2) 0) k → ⊥) 5
     (row (Whole (drop (getD m 1 0 + 3) m) → ⊥) 1 end)))))))
 
--- for every octet string exactly one of 0 to 5, and each exactly when the table says
+-- for every octet string exactly one of 0 to 5, and each exactly when the table says: of any reader, and of ours
+abbrev pub Numbers : (List ℕ → Read) → Type 0
+Numbers g = (m : List ℕ) → Exactly (readRows m) (readNumber (g m))
+
 abbrev pub Reads : Type 0
-Reads = (m : List ℕ) → Exactly (readRows m) (readNumber (readOf m))
+Reads = Numbers readOf
 
 -- THE ELEMENT. Where a user-user element is given back, it lies in the message, begins 7E, and its length octet counts
 -- the octets after the first two: it is whole, and no octet of it is lost.
