@@ -1,5 +1,6 @@
 // Runs cases of calls that are easy to get wrong, and a whole call with every service, and prints a line for each
-// event: its name, the answer, the note, and the type and cause of the message to the calling and to the called user.
+// event: its name, the answer, the note, and the message to the calling and to the called user, with its type, its
+// cause and what it says of services.
 use answer::note_number;
 use answer::number;
 use call::Call;
@@ -13,9 +14,11 @@ use rights::Rights;
 use sent::Sent;
 use sent::side::Side;
 use services::Answers;
+use services::Facilities;
 use services::Given;
 use services::Request;
 use services::Requests;
+use services::Said;
 
 fn show_cause(c: Cause) {
     match c {
@@ -27,7 +30,33 @@ fn show_cause(c: Cause) {
     }
 }
 
-// The type in hexadecimal, then the cause and whether the element goes out.
+fn show_item(service: &[u8], what: &[u8]) {
+    io::write_all(STDOUT_FILENO, b",");
+    io::write_all(STDOUT_FILENO, service);
+    io::write_all(STDOUT_FILENO, what);
+}
+
+fn show_said(service: &[u8], s: Said) {
+    match s {
+        Said::Nothing => {}
+        Said::Preferred => show_item(service, b".p"),
+        Said::Required => show_item(service, b".r"),
+        Said::Accepted => show_item(service, b".ok"),
+        Said::ByUser => show_item(service, b".user"),
+        Said::ByNetwork => show_item(service, b".network"),
+    }
+}
+
+fn show_facilities(f: Facilities) {
+    let one = f.one;
+    let two = f.two;
+    let three = f.three;
+    show_said(b"1", one);
+    show_said(b"2", two);
+    show_said(b"3", three);
+}
+
+// The type in hexadecimal, then the cause, whether the element goes out, and what is said of services.
 fn show_sent(s: Sent) {
     io::write_all(STDOUT_FILENO, b" ");
     match s {
@@ -37,11 +66,13 @@ fn show_sent(s: Sent) {
         Sent::Present(m) => {
             let kind = m.kind;
             let cause = m.cause;
+            let said = m.said;
             io::print_hex(STDOUT_FILENO, kind_octet(kind) as u64, 2);
             show_cause(cause);
             if m.element {
                 io::write_all(STDOUT_FILENO, b"+");
             }
+            show_facilities(said);
         }
     }
 }
@@ -243,9 +274,63 @@ fn facilities() {
     says(b"under service 3", h, Side::Called);
 }
 
+// 1 is not answered and 3 is rejected.
+fn rejects(name: &[u8], c: Call) {
+    let e = Event::Connect {
+        answers: Answers {
+            one: Given::Silent,
+            two: Given::Silent,
+            three: Given::Rejected,
+        },
+    };
+    run(name, c, e, b"");
+}
+
+// Services that fail in one CONNECT without ALERTING. The cause goes by the lowest required one: 69 for none, 29 for a
+// rejection.
+fn fails() {
+    let both = requests(Request::Required, Request::Unasked, Request::Required);
+    let three = requests(Request::Preferred, Request::Unasked, Request::Required);
+    let c = sets_up(b"1 and 3 required", rights(7, false, 131), both, b"");
+    rejects(b"connect, 1 silent, 3 rejected", c);
+    let d = sets_up(
+        b"1 preferred, 3 required",
+        rights(7, false, 131),
+        three,
+        b"",
+    );
+    rejects(b"connect, 1 silent, 3 rejected", d);
+}
+
+// The caller's own request is not its own to accept, and the called side's DISCONNECT rejects it, while it is open.
+fn closes() {
+    let b = sets_up(
+        b"setup, nothing asked",
+        rights(4, false, 131),
+        nothing_asked(),
+        b"",
+    );
+    let c = connects(b"connect, nothing due", b, Given::Silent);
+    let d = asks(b"caller asks", c, Side::Calling, What::Preferred);
+    let e = asks(
+        b"caller accepts its own request",
+        d,
+        Side::Calling,
+        What::Accept,
+    );
+    let a = Event::Disconnect {
+        side: Side::Called,
+        cause: 16,
+        answers: answers(Given::Rejected),
+    };
+    run(b"called disconnect, all rejected", e, a, b"");
+}
+
 fn main() {
     whole();
     limits();
     required();
     facilities();
+    fails();
+    closes();
 }
