@@ -1,6 +1,10 @@
 // Runs cases of calls that are easy to get wrong, and a whole call with every service, and prints a line for each
 // event: its name, the answer, the note, and the message to the calling and to the called user, with its type, its
-// cause and what it says of services.
+// cause and what it says of services. Where a meter is lent beside the call, what that answers and holds follows.
+mod lends;
+
+use crate::lends::spend_in;
+use crate::lends::tick_in;
 use answer::note_number;
 use answer::number;
 use call::Call;
@@ -8,6 +12,9 @@ use call::reply::Reply;
 use cause::Cause;
 use event::Event;
 use facility_rules::What;
+use flow_meter::Meter;
+use flow_meter::lent::spent_number;
+use flow_meter::lent::ticked_number;
 use libc::STDOUT_FILENO;
 use message_types::kind_octet;
 use rights::Rights;
@@ -77,7 +84,7 @@ fn show_sent(s: Sent) {
     }
 }
 
-fn show(name: &[u8], r: Reply) {
+fn show_reply(name: &[u8], r: Reply) {
     let answer = r.answer;
     let note = r.note;
     let calling = r.calling;
@@ -89,6 +96,31 @@ fn show(name: &[u8], r: Reply) {
     io::print_decimal(STDOUT_FILENO, note_number(note) as u64);
     show_sent(calling);
     show_sent(called);
+}
+
+fn show(name: &[u8], r: Reply) {
+    show_reply(name, r);
+    io::write_all(STDOUT_FILENO, b"\n");
+}
+
+fn show_number(n: u64) {
+    io::write_all(STDOUT_FILENO, b" ");
+    io::print_decimal(STDOUT_FILENO, n);
+}
+
+// What a lent meter answered, and what it then holds: credit, mark and count.
+fn show_lent(number: u8, m: Meter) {
+    let credit = m.credit;
+    let count = m.count;
+    io::write_all(STDOUT_FILENO, b" lent");
+    show_number(number as u64);
+    show_number(credit as u64);
+    if m.mark {
+        show_number(1);
+    } else {
+        show_number(0);
+    }
+    show_number(count as u64);
     io::write_all(STDOUT_FILENO, b"\n");
 }
 
@@ -326,6 +358,60 @@ fn closes() {
     run(b"called disconnect, all rejected", e, a, b"");
 }
 
+// A call, and the meter of its calling side, lent by the host.
+struct Beside {
+    call: Call,
+    meter: Meter,
+}
+
+// A message of the calling side in Active, with late delivery and services 2 and 3 in force.
+fn says_beside(name: &[u8], b: Beside) -> Beside {
+    let c = b.call;
+    let m = b.meter;
+    let e = Event::Information {
+        side: Side::Calling,
+        more: false,
+    };
+    let r = c.step(e, b"~\x02\x04C");
+    let s = spend_in(m, 1, true, true);
+    let spent = s.spent;
+    let call = r.call;
+    let next = s.next;
+    show_reply(name, r);
+    show_lent(spent_number(spent), next);
+    Beside {
+        call: call,
+        meter: next,
+    }
+}
+
+fn ticks_beside(name: &[u8], b: Beside) {
+    let c = b.call;
+    let m = b.meter;
+    let r = c.step(Event::Tick, b"");
+    let t = tick_in(m, 1, 1);
+    let ticked = t.ticked;
+    let next = t.next;
+    show_reply(name, r);
+    show_lent(ticked_number(ticked), next);
+}
+
+// The same numbers from a call and from a lent meter, which begins as service 3 does: with X credits.
+fn metered() {
+    let c = connects(b"connect, accepted", alerted(), Given::Accepted);
+    let m = Meter {
+        credit: 1,
+        mark: false,
+        count: 0,
+    };
+    let b = Beside { call: c, meter: m };
+    let d = says_beside(b"by the count", b);
+    let e = says_beside(b"by the count, once more", d);
+    let f = says_beside(b"by the credit", e);
+    let g = says_beside(b"dropped", f);
+    ticks_beside(b"tick", g);
+}
+
 fn main() {
     whole();
     limits();
@@ -333,4 +419,5 @@ fn main() {
     facilities();
     fails();
     closes();
+    metered();
 }
