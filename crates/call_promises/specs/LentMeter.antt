@@ -65,8 +65,8 @@ pub record TicksAlike (m : Meter) (burst refill : ℕ) (side : Side) (r : Reply)
   pub meter : meterFrom (r .call) side ≡ ticksOf m burst refill .next
   pub cleared : ticksOf m burst refill .ticked ≡ Ticked.Ready ↔ sentTo r side ≡ ready
 
--- LENT TICKING. While service 3 is in force in Active, a tick leaves the meter of each side as `tick` leaves a lent one,
--- and sends ready to the side exactly if `tick` says so.
+-- LENT TICKING. While service 3 is in force in Active, a tick leaves the meter of each side as `tick` leaves a lent
+-- one, and sends ready to the side exactly if `tick` says so.
 abbrev pub LentTicking : Type 0
 LentTicking =
     (c : Call) (side : Side) (l : List ℕ) → InRangeCall c → ServesThree c →

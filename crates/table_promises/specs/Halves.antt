@@ -49,8 +49,8 @@ older = freshCall ∷ []
 abbrev pub newer : List Call
 newer = stepTable older 5 (setup 5 .event) (setup 5 .element)
 
--- STALE MET. A SETUP of reference 6 planned from the older table takes the place, where a step would be answered 21, "no
--- free place".
+-- STALE MET. A SETUP of reference 6 planned from the older table takes the place, where a step would be answered 21,
+-- "no free place".
 pub record StaleMet : Type 0 where
   pub held : getD newer 0 freshCall .reference ≡ 5
   pub lost : getD (committed newer (planFor older 6 (setup 6 .event) (setup 6 .element) .put)) 0 freshCall .reference ≡ 6

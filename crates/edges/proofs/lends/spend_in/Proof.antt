@@ -119,7 +119,8 @@ module _ {M : Type 1} (𝓤 : URA M) (H : Heap 𝓤) (A : Atoms 𝓤) (W : Given
         use1 W (later (some (λ (δ : GName). ‵ (MutRef (named 0) (ν ∷ []) T.the-row .own (x l₅ δ) (vptr l₅ 0 ∷ [])) ⊛ ‵ (flent (ν ∷ []) (Body (mem T.the-row) l₅ 0 δ)))))
         (lends-meter 𝓤 H A W l₅ 0 h is (named 0) (ν ∷ [])) $ await ! tt $ pick ! (λ δ. split ! $
         move ! (2 ∷ 0 ∷ []) $ use2 W (raw (G 𝓤 H A at-mem run .pre (to-g l₅ ν δ, tt))) (goes-g l₅ ν δ) $
-        -- [what `spend` asks; the lender's part; _8 at 2; …; _7; …; _6; …; _5's end; _4 at 9; …; _3; …; _2; …; _1; …; _0; …]
+        -- [what `spend` asks; the lender's part; _8 at 2; …; _7; …; _6; …; _5's end; _4 at 9; …; _3; …; _2; …; _1; …;
+        -- _0; …]
         calls-lasts ! fm g.ended (g.clauses 𝓤 H A at-mem run) known (to-g l₅ ν δ) tt (λ r ws. (ws .0 ≡ spendsOf h n t₂ t₃ .next) × (r ≡ spendsOf h n t₂ t₃ .spent)) (λ r ws. id⊢ 𝓤 _) aval (LE.tells R.the-type R′.the-laws)
         (and-then ! (load ! (from ! (stop !)) (look ! 4 refl)) (and-then ! (load ! (from ! (stop !)) (look ! 13 refl)) (and-then ! (load ! (from ! (stop !)) (look ! 11 refl)) (and-then ! (load ! (from ! (stop !)) (look ! 9 refl)) (no-more !))))) (λ r ws e isr.
         land ! (from ! (stop !)) (init ! 7 refl (LE.lawful R.the-type R′.the-laws 𝓤 H A W tt .typed r _ isr .0)) $
