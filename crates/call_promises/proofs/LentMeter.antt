@@ -32,7 +32,7 @@ use Rattle.call.specs.Reply.{barOf, heardOf, replyOf}
 use Rattle.call.specs.Sound.{soundOf, fieldsFitOf}
 use Rattle.call.specs.Tick.{runsOf, passesTickOf, tickOf}
 use Rattle.call_promises.specs.Ranges.{Within, MeterInRange, InRangeCall}
-use Rattle.call_promises.specs.Numbers.{WellFormed, ServesThree, meterFrom}
+use Rattle.call_promises.specs.Numbers.{WellFormed, ServesThree, meterFrom, other}
 use Rattle.call_promises.specs.Refusals.{notReady}
 use Rattle.call_promises.specs.LentMeter.{Told, SpendsAlike, LentSpending, ready, TicksAlike, LentTicking, LentSample, LentMet}
 use Rattle.logic.proofs.Decide.{never, by-cond, Decides, both, le}
@@ -111,18 +111,20 @@ mark-so Passage.Spent = (λ h. never (ap isMarked h) refl, λ k. never (ap isSen
 mark-so Passage.Unserved = (λ h. never (ap isMarked h) refl, λ k. never (ap isSent k) refl)
 
 module _ (c : Call) (more : Bool) (burst : ℕ) (two three : Bool) (p : Passage) where
-  carried-alike : (side : Side) → spendsOf (meterOf (c .meters) side) burst two three .spent ≡ spentBy p → spendsOf (meterOf (c .meters) side) burst two three .next ≡ afterOf (meterOf (c .meters) side) p → SpendsAlike (meterFrom c side) burst two three side (carriedOf c side more p)
+  carried-alike : (side : Side) → spendsOf (meterOf (c .meters) side) burst two three .spent ≡ spentBy p → spendsOf (meterOf (c .meters) side) burst two three .next ≡ afterOf (meterOf (c .meters) side) p → SpendsAlike (meterFrom c side) (meterFrom c (other side)) burst two three side (carriedOf c side more p)
   unfolding carriedOf replyOf metersOf
   carried-alike Side.Calling e f =
       record {
         number = number-so p ∙ ap spentNumber (sym e);
         meter = sym f;
+        stays = refl;
         marked = (λ h. mark-so p .0 (sym e ∙ h), λ k. e ∙ mark-so p .1 k);
       }
   carried-alike Side.Called e f =
       record {
         number = number-so p ∙ ap spentNumber (sym e);
         meter = sym f;
+        stays = refl;
         marked = (λ h. mark-so p .0 (sym e ∙ h), λ k. e ∙ mark-so p .1 k);
       }
 

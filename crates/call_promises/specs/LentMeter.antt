@@ -23,7 +23,7 @@ use Rattle.event.specs.declared.Event.{Event}
 use Rattle.call.specs.declared.reply.Reply.{Reply}
 use Rattle.call.specs.Step.{stepOf}
 use Rattle.call_promises.specs.Ranges.{InRangeCall}
-use Rattle.call_promises.specs.Numbers.{Allowed, WellFormed, ServesTwo, ServesThree, meterFrom}
+use Rattle.call_promises.specs.Numbers.{Allowed, WellFormed, ServesTwo, ServesThree, meterFrom, other}
 use Rattle.call_promises.specs.Refusals.{sentTo, notReady, nothingSaid}
 
 -- the services that `spend` is told of are those that serve the side's message
@@ -32,19 +32,22 @@ pub record Told (c : Call) (side : Side) (two three : Bool) : Type 0 where
   pub service3 : three ≡ true ↔ ServesThree c
 
 -- The reply to a side's message, beside what `spend` makes of a meter m. "sets that direction's mark and sends not
--- ready, cause 43, to its sender"
-pub record SpendsAlike (m : Meter) (burst : ℕ) (two three : Bool) (side : Side) (r : Reply) : Type 0 where
+-- ready, cause 43, to its sender". The meter n of the other direction stays.
+pub record SpendsAlike (m n : Meter) (burst : ℕ) (two three : Bool) (side : Side) (r : Reply) : Type 0 where
   pub number : numberOf (r .answer) ≡ spentNumber (spendsOf m burst two three .spent)
   pub meter : meterFrom (r .call) side ≡ spendsOf m burst two three .next
+  pub stays : meterFrom (r .call) (other side) ≡ n
   pub marked : spendsOf m burst two three .spent ≡ Spent.Marked ↔ sentTo r side ≡ notReady
 
 -- LENT SPENDING. A message with an element in order, in a phase that allows it, of a record in range: its number, and
--- the meter that it leaves of its side, are those of `spend` on a lent meter that holds the same.
+-- the meter that it leaves of its side, are those of `spend` on a lent meter that holds the same; the other side's
+-- meter is as it was.
 abbrev pub LentSpending : Type 0
 LentSpending =
     (c : Call) (side : Side) (more : Bool) (l : List ℕ) (two three : Bool) →
     InRangeCall c → Allowed (Event.Information side more) (c .phase) → WellFormed l → length l ≤ c .rights .limit → Told c side two three →
-    SpendsAlike (meterFrom c side) (c .rights .burst) two three side (stepOf c (Event.Information side more) l)
+    SpendsAlike (meterFrom c side) (meterFrom c (other side)) (c .rights .burst) two three side
+    (stepOf c (Event.Information side more) l)
 
 -- "A tick with the mark set clears it and sends ready, with cause 43 too (house)."
 abbrev pub ready : Sent
