@@ -137,6 +137,56 @@ pub(crate) fn counted() {
     );
 }
 
+// Both ends of the shifts, and the octet before them, each with two user-user elements after it. After a locking shift
+// neither is ours; a non-locking one makes the first passed over, and the second counts; any other octet that stands
+// alone is passed over itself, and the first counts.
+pub(crate) fn shifts() {
+    reads(
+        b"two elements after 90",
+        b"\x08\x01\x05\x05\x90\x7E\x01\x04\x7E\x03\x04\x48\x69",
+        b"0 05 0 5 - - - -",
+    );
+    reads(
+        b"two elements after 97",
+        b"\x08\x01\x05\x05\x97\x7E\x01\x04\x7E\x03\x04\x48\x69",
+        b"0 05 0 5 - - - -",
+    );
+    reads(
+        b"two elements after 98",
+        b"\x08\x01\x05\x05\x98\x7E\x01\x04\x7E\x03\x04\x48\x69",
+        b"0 05 0 5 - - - 8+5",
+    );
+    reads(
+        b"two elements after 9F",
+        b"\x08\x01\x05\x05\x9F\x7E\x01\x04\x7E\x03\x04\x48\x69",
+        b"0 05 0 5 - - - 8+5",
+    );
+    reads(
+        b"two elements after 8F",
+        b"\x08\x01\x05\x05\x8F\x7E\x01\x04\x7E\x03\x04\x48\x69",
+        b"0 05 0 5 - - - 5+3",
+    );
+}
+
+// Only B0 and BF are levels: what lies between them is passed over.
+pub(crate) fn levels() {
+    reads(
+        b"B1 to BE before BF",
+        b"\x08\x01\x05\x79\xB1\xB2\xB3\xB4\xB5\xB6\xB7\xB8\xB9\xBA\xBB\xBC\xBD\xBE\xBF\x08\x02\x82\xAB",
+        b"0 79 0 5 43 BF - -",
+    );
+    reads(
+        b"B1 to BE before B0",
+        b"\x08\x01\x05\x79\xB1\xB2\xB3\xB4\xB5\xB6\xB7\xB8\xB9\xBA\xBB\xBC\xBD\xBE\xB0\x08\x02\x82\xAB",
+        b"0 79 0 5 43 B0 - -",
+    );
+    reads(
+        b"B1 to BE after B0",
+        b"\x08\x01\x05\x79\xB0\xB1\xB2\xB3\xB4\xB5\xB6\xB7\xB8\xB9\xBA\xBB\xBC\xBD\xBE\xBF\x08\x02\x82\xAB",
+        b"0 79 0 5 43 B0 - -",
+    );
+}
+
 // The first Cause, and the first three Facility elements that can be read.
 pub(crate) fn first_ones() {
     reads(
@@ -153,6 +203,12 @@ pub(crate) fn first_ones() {
         b"Cause with an extension",
         b"\x08\x01\x05\x45\x08\x03\x02\x80\x90",
         b"0 45 0 5 16 - - -",
+    );
+    // The octet after the location octet and one extension, whatever that extension's top bit says.
+    reads(
+        b"Cause with two extensions",
+        b"\x08\x01\x05\x45\x08\x04\x02\x00\x91\x90",
+        b"0 45 0 5 17 - - -",
     );
     reads(
         b"four Facility, one unreadable",

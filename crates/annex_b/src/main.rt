@@ -19,6 +19,8 @@ fn main() {
     crate::annex_messages::faults();
     crate::annex_messages::longest();
     crate::annex_messages::counted();
+    crate::annex_messages::shifts();
+    crate::annex_messages::levels();
     crate::annex_messages::first_ones();
     crate::annex_messages::refused();
     crate::annex_messages::out_of_range();

@@ -18,3 +18,4 @@ pub mod Required
 pub mod Parts
 pub mod Sends
 pub mod Becomes
+pub mod LentMeter

@@ -13,7 +13,7 @@ use Rattle.call_promises.specs.Ranges.{Live, Within, ReferenceInRange, R
 use Rattle.logic.proofs.Decide.{never, Decides, Denies, via, both, le}
 use Rattle.call_promises.proofs.Phases.{live}
 
-within-range : (least n greatest : ℕ) → Decides (within least n greatest) (Within least n greatest)
+pub within-range : (least n greatest : ℕ) → Decides (within least n greatest) (Within least n greatest)
 within-range least n greatest = both _ _ (le least n) (le n greatest)
 
 pub reference-range : (n : ℕ) → Decides (referenceFitsOf n) (ReferenceInRange n)
@@ -29,7 +29,7 @@ rights-range r =
     (both _ _ (both _ _ (le (r .services) 7) (within-range 3 (r .limit) 131)) (within-range 1 (r .burst) 255))
     (within-range 1 (r .refill) 255))
 
-meter-range : (m : Meter) (burst : ℕ) → Decides (meterFitsOf m burst) (MeterInRange burst m)
+pub meter-range : (m : Meter) (burst : ℕ) → Decides (meterFitsOf m burst) (MeterInRange burst m)
 unfolding meterFitsOf
 meter-range m burst =
     via (λ t. record { credit = t .0; count = t .1 }) (λ i. (i .credit, i .count)) (both _ _ (le (m .credit) burst) (le (m .count) 2))

@@ -9,3 +9,4 @@ pub mod MoreRights
 pub mod Services
 pub mod Sends
 pub mod Becomes
+pub mod LentMeter

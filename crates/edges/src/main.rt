@@ -1,5 +1,10 @@
 // Runs cases of calls that are easy to get wrong, and a whole call with every service, and prints a line for each
-// event: its name, the answer, the note, and the type and cause of the message to the calling and to the called user.
+// event: its name, the answer, the note, and the message to the calling and to the called user, with its type, its
+// cause and what it says of services. Where a meter is lent beside the call, what that answers and holds follows.
+mod lends;
+
+use crate::lends::spend_in;
+use crate::lends::tick_in;
 use answer::note_number;
 use answer::number;
 use call::Call;
@@ -7,15 +12,20 @@ use call::reply::Reply;
 use cause::Cause;
 use event::Event;
 use facility_rules::What;
+use flow_meter::Meter;
+use flow_meter::lent::spent_number;
+use flow_meter::lent::ticked_number;
 use libc::STDOUT_FILENO;
 use message_types::kind_octet;
 use rights::Rights;
 use sent::Sent;
 use sent::side::Side;
 use services::Answers;
+use services::Facilities;
 use services::Given;
 use services::Request;
 use services::Requests;
+use services::Said;
 
 fn show_cause(c: Cause) {
     match c {
@@ -27,7 +37,33 @@ fn show_cause(c: Cause) {
     }
 }
 
-// The type in hexadecimal, then the cause and whether the element goes out.
+fn show_item(service: &[u8], what: &[u8]) {
+    io::write_all(STDOUT_FILENO, b",");
+    io::write_all(STDOUT_FILENO, service);
+    io::write_all(STDOUT_FILENO, what);
+}
+
+fn show_said(service: &[u8], s: Said) {
+    match s {
+        Said::Nothing => {}
+        Said::Preferred => show_item(service, b".p"),
+        Said::Required => show_item(service, b".r"),
+        Said::Accepted => show_item(service, b".ok"),
+        Said::ByUser => show_item(service, b".user"),
+        Said::ByNetwork => show_item(service, b".network"),
+    }
+}
+
+fn show_facilities(f: Facilities) {
+    let one = f.one;
+    let two = f.two;
+    let three = f.three;
+    show_said(b"1", one);
+    show_said(b"2", two);
+    show_said(b"3", three);
+}
+
+// The type in hexadecimal, then the cause, whether the element goes out, and what is said of services.
 fn show_sent(s: Sent) {
     io::write_all(STDOUT_FILENO, b" ");
     match s {
@@ -37,16 +73,18 @@ fn show_sent(s: Sent) {
         Sent::Present(m) => {
             let kind = m.kind;
             let cause = m.cause;
+            let said = m.said;
             io::print_hex(STDOUT_FILENO, kind_octet(kind) as u64, 2);
             show_cause(cause);
             if m.element {
                 io::write_all(STDOUT_FILENO, b"+");
             }
+            show_facilities(said);
         }
     }
 }
 
-fn show(name: &[u8], r: Reply) {
+fn show_reply(name: &[u8], r: Reply) {
     let answer = r.answer;
     let note = r.note;
     let calling = r.calling;
@@ -58,6 +96,31 @@ fn show(name: &[u8], r: Reply) {
     io::print_decimal(STDOUT_FILENO, note_number(note) as u64);
     show_sent(calling);
     show_sent(called);
+}
+
+fn show(name: &[u8], r: Reply) {
+    show_reply(name, r);
+    io::write_all(STDOUT_FILENO, b"\n");
+}
+
+fn show_number(n: u64) {
+    io::write_all(STDOUT_FILENO, b" ");
+    io::print_decimal(STDOUT_FILENO, n);
+}
+
+// What a lent meter answered, and what it then holds: credit, mark and count.
+fn show_lent(number: u8, m: Meter) {
+    let credit = m.credit;
+    let count = m.count;
+    io::write_all(STDOUT_FILENO, b" lent");
+    show_number(number as u64);
+    show_number(credit as u64);
+    if m.mark {
+        show_number(1);
+    } else {
+        show_number(0);
+    }
+    show_number(count as u64);
     io::write_all(STDOUT_FILENO, b"\n");
 }
 
@@ -243,9 +306,118 @@ fn facilities() {
     says(b"under service 3", h, Side::Called);
 }
 
+// 1 is not answered and 3 is rejected.
+fn rejects(name: &[u8], c: Call) {
+    let e = Event::Connect {
+        answers: Answers {
+            one: Given::Silent,
+            two: Given::Silent,
+            three: Given::Rejected,
+        },
+    };
+    run(name, c, e, b"");
+}
+
+// Services that fail in one CONNECT without ALERTING. The cause goes by the lowest required one: 69 for none, 29 for a
+// rejection.
+fn fails() {
+    let both = requests(Request::Required, Request::Unasked, Request::Required);
+    let three = requests(Request::Preferred, Request::Unasked, Request::Required);
+    let c = sets_up(b"1 and 3 required", rights(7, false, 131), both, b"");
+    rejects(b"connect, 1 silent, 3 rejected", c);
+    let d = sets_up(
+        b"1 preferred, 3 required",
+        rights(7, false, 131),
+        three,
+        b"",
+    );
+    rejects(b"connect, 1 silent, 3 rejected", d);
+}
+
+// The caller's own request is not its own to accept, and the called side's DISCONNECT rejects it, while it is open.
+fn closes() {
+    let b = sets_up(
+        b"setup, nothing asked",
+        rights(4, false, 131),
+        nothing_asked(),
+        b"",
+    );
+    let c = connects(b"connect, nothing due", b, Given::Silent);
+    let d = asks(b"caller asks", c, Side::Calling, What::Preferred);
+    let e = asks(
+        b"caller accepts its own request",
+        d,
+        Side::Calling,
+        What::Accept,
+    );
+    let a = Event::Disconnect {
+        side: Side::Called,
+        cause: 16,
+        answers: answers(Given::Rejected),
+    };
+    run(b"called disconnect, all rejected", e, a, b"");
+}
+
+// A call, and the meter of its calling side, lent by the host.
+struct Beside {
+    call: Call,
+    meter: Meter,
+}
+
+// A message of the calling side in Active, with late delivery and services 2 and 3 in force.
+fn says_beside(name: &[u8], b: Beside) -> Beside {
+    let c = b.call;
+    let m = b.meter;
+    let e = Event::Information {
+        side: Side::Calling,
+        more: false,
+    };
+    let r = c.step(e, b"~\x02\x04C");
+    let s = spend_in(m, 1, true, true);
+    let spent = s.spent;
+    let call = r.call;
+    let next = s.next;
+    show_reply(name, r);
+    show_lent(spent_number(spent), next);
+    Beside {
+        call: call,
+        meter: next,
+    }
+}
+
+fn ticks_beside(name: &[u8], b: Beside) {
+    let c = b.call;
+    let m = b.meter;
+    let r = c.step(Event::Tick, b"");
+    let t = tick_in(m, 1, 1);
+    let ticked = t.ticked;
+    let next = t.next;
+    show_reply(name, r);
+    show_lent(ticked_number(ticked), next);
+}
+
+// The same numbers from a call and from a lent meter, which begins as service 3 does: with X credits.
+fn metered() {
+    let c = connects(b"connect, accepted", alerted(), Given::Accepted);
+    let m = Meter {
+        credit: 1,
+        mark: false,
+        count: 0,
+    };
+    let b = Beside { call: c, meter: m };
+    let d = says_beside(b"by the count", b);
+    let e = says_beside(b"by the count, once more", d);
+    let f = says_beside(b"by the credit", e);
+    let g = says_beside(b"dropped", f);
+    ticks_beside(b"tick", g);
+}
+
 fn main() {
     whole();
     limits();
     required();
     facilities();
+    fails();
+    closes();
+    metered();
 }

@@ -1,8 +1,9 @@
 // Standard input and output as the programs use them, with a buffer that holds what was read and not used yet. No
-// contract can say what is read or written: `send` and `fetch` are proved to reach into no other memory than the
-// buffer's.
+// contract can say what is read or written: `send` is proved to reach into no other memory than the buffer's, and
+// `fetch` to keep what was held and to say where what was read ends.
 ghost use mathlib.Core.Path.{_≡_};
 ghost use Rattle.memory.specs.Room.{keptOf};
+ghost use Rattle.streams.specs.Refill.{ReadAfter, Refilled};
 use libc::STDIN_FILENO;
 use libc::STDOUT_FILENO;
 use memory::keep;
@@ -35,7 +36,9 @@ pub fn held<'a>(buf: &'a [u8], from: usize, to: usize) -> &'a [u8]
 }
 
 // Reads once, after the octets that the buffer holds: how many came.
-fn read_after(buf: &mut [u8], left: usize) -> usize {
+fn read_after(buf: &mut [u8], left: usize) -> usize
+    ensures { λ r. ⌜ ReadAfter left (now (buf .entry)) (now (buf .exit)) r ⌝ }
+{
     if left >= buf.len() {
         return 0;
     }
@@ -46,11 +49,13 @@ fn read_after(buf: &mut [u8], left: usize) -> usize {
 
 // What is held goes to the buffer's front, and more is read after it. A read that fails, or gives nothing, is the end
 // of the input.
-pub fn fetch(buf: &mut [u8], from: usize, to: usize) -> Fetched {
+pub fn fetch(buf: &mut [u8], from: usize, to: usize) -> Fetched
+    ensures { λ r. ⌜ Refilled from to (now (buf .entry)) (now (buf .exit)) r ⌝ }
+{
     let left = keep(buf, from, to);
     let got = read_after(buf, left);
     Fetched {
-        to: std::num::wrapping_add_usize(left, got),
+        to: left + got,
         came: got > 0,
     }
 }

@@ -6,3 +6,4 @@ pub mod Replies
 pub mod Within
 pub mod Counted
 pub mod Table
+pub mod Halves

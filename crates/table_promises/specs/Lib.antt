@@ -1,3 +1,4 @@
 pub mod Alone
 pub mod Replies
 pub mod Table
+pub mod Halves

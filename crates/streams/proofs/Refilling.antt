@@ -1,0 +1,52 @@
+-- A buffer that more is read into, after what it holds.
+use Prim.Native.Nat.{ℕ, zero, suc, _+_, _-_, _<_, _≤_}
+use mathlib.Core.List.{List}
+use mathlib.Core.Path.{_≡_, refl, sym, _∙_}
+use native.Mathlib.Omega.{arith}
+use borrow.Author.Tests.{leb-true, le-ltb, lt-ltb}
+use borrow.Rule.Slice.PartMut.{midOf, putMid, take-put, same-len-mid, mid-len}
+use lib.Dec.{leb, ltb}
+use lib.ListN.{length, drop, length-drop}
+use lib.Seq.{take-at, length-take-le}
+use Rattle.logic.proofs.Decide.{by-cond}
+use Rattle.memory.specs.Room.{placed, keptOf, Kept}
+use Rattle.memory.proofs.Pieces.{length-placed}
+use Rattle.streams.specs.Refill.{ReadAfter, Refilled}
+
+-- what is read goes into the part of the buffer that begins after the first n octets
+pub reads-after : {n r : ℕ} (l p : List ℕ) → n < length l → length p ≡ length (midOf n (length l - n) l) → r ≤ length p → ReadAfter n l (putMid n (length l - n) l p) r
+reads-after {n} {r} l p h e k =
+    let m : length (midOf n (length l - n) l) ≡ length l - n = mid-len n (length l) l (omega arith) in
+    record {
+      front = take-put n (length l - n) l p (omega arith);
+      long = same-len-mid n (length l - n) l p e;
+      room = omega (arith, e, m);
+    }
+
+kept-fits : (from to : ℕ) (l : List ℕ) → length (keptOf from to l) ≤ length l
+unfolding keptOf
+kept-fits from to l =
+    by-cond (λ (x : List ℕ). length x ≤ length l) (leb from to)
+    (λ a. by-cond (λ (x : List ℕ). length x ≤ length l) (leb to (length l))
+    (λ b. rw (length-take-le (to - from) (drop from l) (rw length-drop (omega (arith, leb-true)))) (omega (arith, leb-true))) (λ b. omega arith))
+    (λ a. omega arith)
+
+-- something came exactly if what is held ends later than before
+later : (n r : ℕ) → ltb 0 r ≡ ltb n (n + r)
+later n zero = sym (le-ltb n (n + 0) (omega arith))
+later n (suc r) = lt-ltb 0 (suc r) (omega arith) ∙ sym (lt-ltb n (n + suc r) (omega arith))
+
+-- what is kept stands at the front, and so it does after the read
+pub refills : {from to n r : ℕ} {l k l' : List ℕ} → Kept from to l k n → ReadAfter n k l' r → Refilled from to l l' (record { to = n + r; came = ltb 0 r })
+unfolding placed
+refills {from} {to} {n} {r} {l} {k} {l'} h a =
+    let q = keptOf from to l in
+    let f = kept-fits from to l in
+    let e : length k ≡ length l = rw (h .buffer) (length-placed 0 q l (omega (arith, f))) in
+    record {
+      front = rw (← (h .count), a .front, h .buffer, h .count) (take-at q (drop (0 + length q) l) (length q) refl);
+      long = a .long ∙ e;
+      least = omega (arith, h .count);
+      most = omega (arith, f, e, h .count, a .long, a .room);
+      told = rw (← (h .count)) (later n r);
+    }
