@@ -2,3 +2,4 @@ pub mod Meets
 pub mod Decided
 pub mod WrongCores
 pub mod OneReply
+pub mod Demand1

@@ -1,3 +1,4 @@
+pub mod Demand1
 pub mod Demands
 pub mod WrongCores
 pub mod OneReply

@@ -2,6 +2,7 @@
 use Prim.Native.Nat.{ℕ}
 use mathlib.Core.Bool.{Bool, true, false, cond, _&&_}
 use mathlib.Core.List.{List}
+use mathlib.Core.Logic.{_⊎_, inl, inr}
 use mathlib.Core.Path.{_≡_, refl, sym, _∙_, ap}
 use lib.ListN.{getD}
 use lib.Seq.{getD-set-same}
@@ -102,6 +103,15 @@ module _ (t : List Call) (n : ℕ) (e : Event) (l : List ℕ) where
       (TableRefuses t n e → Silent (outcomeAt t k e l)) × ((TableRefuses t n e → ⊥) → Own t (tableAt t k e l) n e l (outcomeAt t k e l))
   replies-at k c (refuses v r) = ((λ _. silent-at v), (λ h. absurd (h r)))
   replies-at k c (hears i h) = ((λ r. absurd (h r)), (λ _. own-at i c))
+
+-- what is answered at the table: nothing is said, or what the call itself replies
+told-at : (t : List Call) (n : ℕ) (e : Event) (l : List ℕ) (k : Choice) → chosenOf t n e ≡ k → Decided t n e k → Silent (outcomeAt t k e l) ⊎ Own t (tableAt t k e l) n e l (outcomeAt t k e l)
+told-at t n e l k c (refuses v r) = inl (silent-at t n e l v)
+told-at t n e l k c (hears i h) = inr (own-at t n e l i c)
+
+pub told : (t : List Call) (n : ℕ) (e : Event) (l : List ℕ) → Silent (stepOutcome t n e l) ⊎ Own t (stepTable t n e l) n e l (stepOutcome t n e l)
+unfolding stepOutcome stepTable
+told t n e l = told-at t n e l (chosenOf t n e) refl (decided-if t n e (tableSound t) refl)
 
 pub replies : Replies
 unfolding stepOutcome stepTable

@@ -89,7 +89,7 @@ call-number : (t : List Call) (n i : ℕ) (e : Event) (l : List ℕ) → opensOf
 unfolding settledOf heardOutcomeOf subjectOf
 call-number t n i e l eo ec = λ j. numberOf (stepOf (cond (eo j) freshCall (ec j)) e l .answer)
 
-no-setup : (e : Event) → opensOf e ≡ false → Other e
+pub no-setup : (e : Event) → opensOf e ≡ false → Other e
 no-setup e eo (setup x) = never refl eo
 
 other : {P : ℕ → Rights → Type 0} {e : Event} → Other e → SetsUp P e → ⊥
