@@ -3,3 +3,4 @@ pub mod Decided
 pub mod WrongCores
 pub mod OneReply
 pub mod Demand1
+pub mod EveryPromise

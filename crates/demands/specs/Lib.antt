@@ -2,3 +2,4 @@ pub mod Demand1
 pub mod Demands
 pub mod WrongCores
 pub mod OneReply
+pub mod EveryPromise
