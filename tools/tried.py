@@ -1,5 +1,5 @@
 #!/usr/bin/env python3
-"""Makes docs/TRIED.md: which wrong programs had which public function refused.
+"""Makes docs/made/TRIED.md: which wrong programs had which public function refused.
 
 Run it after `rt must-fail` or `rt ci`, from anywhere: python3 tools/tried.py [ROOT]. It reads the edits
 in crates/CRATE/must-fail/LABEL.edit and what the prover said of each in target/must-fail/CRATE/LABEL/.log.
@@ -143,8 +143,8 @@ def page(root):
 def main():
     root = Path(sys.argv[1]) if len(sys.argv) > 1 else Path(__file__).resolve().parent.parent
     text = page(root)
-    (root / "docs" / "TRIED.md").write_text(text)
-    print(f"docs/TRIED.md: {len(text.splitlines())} lines")
+    (root / "docs" / "made" / "TRIED.md").write_text(text)
+    print(f"docs/made/TRIED.md: {len(text.splitlines())} lines")
 
 
 if __name__ == "__main__":

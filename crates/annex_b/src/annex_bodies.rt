@@ -1,4 +1,4 @@
-// The examples of 7.1 and Annex B on the bodies of Facility elements, and damaged ones.
+// Bodies of Facility elements as 7.1 defines them, for each kind that Annex B shows, and damaged ones.
 mod show;
 
 use crate::annex_bodies::show::reads_body;

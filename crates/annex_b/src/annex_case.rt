@@ -1,4 +1,4 @@
-// A case's line: its name, what was found, and whether that is what the standard gives.
+// A case's line: its name, what was found, and whether that is what was to be found.
 use libc::STDOUT_FILENO;
 use memory::Bar;
 use memory::Wrote;

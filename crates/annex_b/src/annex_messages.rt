@@ -1,4 +1,4 @@
-// Whole messages with the examples' components in them, both ways, and the reader's and writer's edges.
+// Whole messages with such components in them, both ways, and the reader's and writer's edges.
 mod show;
 
 use crate::annex_messages::show::both;

@@ -36,9 +36,9 @@ use Rattle.call.specs.Facility.{facilityVerdictOf, facilityCallOf, passesFacili
 use Rattle.call.specs.Tick.{runsOf, passesTickOf, tickOf}
 use Rattle.call_promises.specs.Numbers.{InForce}
 use Rattle.call_promises.specs.Sound.{runOf}
-use Rattle.call_cases.specs.Edges.{silent}
+use Rattle.call_cases.specs.Cases.{silent}
 use Rattle.call_promises.specs.Services.{standingFor, Taken, Requires, asked, alerting}
-use Rattle.call_cases.specs.Handed.{opening, connected, agreed, Handed, Held}
+use Rattle.call_cases.specs.Handed.{opening, connected, agreed, ElementsHanded, ServicesHeld}
 use Rattle.call_cases.specs.ShutOut.{ShutOut}
 
 -- what is computed, all under one line that opens the definitions
@@ -50,7 +50,7 @@ presentOf Sent.Absent = 0
 presentOf (Sent.Present m) = 1
 
 record Facts : Type 0 where
-  handed : Handed
+  handed : ElementsHanded
   taken : numberOf (opened .answer) ≡ 0
   barred : numberOf (stepOf freshCall Event.Tick [] .answer) ≡ 11
   sends : presentOf (opened .calling) ≡ 1
@@ -85,7 +85,7 @@ facts =
       clearing = refl;
     }
 
-pub handed : Handed
+pub handed : ElementsHanded
 handed = facts .handed
 
 -- all three services are required by the first event
@@ -102,7 +102,7 @@ all-in-force Service.Three = facts .three
 unanswered : Given.Silent ≡ Given.Accepted → ⊥
 unanswered e = let z : _≡_ {A = ℕ} 0 1 = cc in omega arith
 
-pub held : Held
+pub held : ServicesHeld
 held =
     record {
       asked = λ k. record { before = []; event = opening; after = _; split = refl; holds = (facts .taken, all-asked k) };

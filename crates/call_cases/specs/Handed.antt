@@ -14,7 +14,7 @@ use Rattle.event.specs.declared.Event.{Event}
 use Rattle.call.specs.Sound.{freshCall}
 use Rattle.call_promises.specs.Numbers.{InForce}
 use Rattle.call_promises.specs.Sound.{Offered, runOf}
-use Rattle.call_cases.specs.Edges.{elementOf, setup, silent, says}
+use Rattle.call_cases.specs.Cases.{elementOf, setup, silent, says}
 use Rattle.call_cases.specs.Instances.{bare, served, unserved}
 use Rattle.call_promises.specs.Handling.{handedTo}
 use Rattle.call_promises.specs.Services.{standingFor, Happens, Takes, Taken, Requires, Failing}
@@ -80,8 +80,8 @@ hands =
     ∷ []
 
 -- HANDED. Elements go out in each message and under each service.
-abbrev pub Handed : Type 0
-Handed = AllHanded hands
+abbrev pub ElementsHanded : Type 0
+ElementsHanded = AllHanded hands
 
 -- service 3 in force by FACILITY
 abbrev pub agreed : List Offered
@@ -91,7 +91,7 @@ agreed =
 
 -- HELD. A call is Active with every service in force that was required; a required service fails, and the call is
 -- Clearing.
-pub record Held : Type 0 where
+pub record ServicesHeld : Type 0 where
   pub asked : (k : Service) → Happens (Takes stepOf (Requires k)) connected
   pub active : runOf stepOf freshCall connected .phase ≡ Phase.Active
   pub in-force : (k : Service) → InForce (standingFor (runOf stepOf freshCall connected .standings) k)

@@ -20,7 +20,7 @@ use Rattle.call.specs.Step.{stepOf}
 use Rattle.call_promises.specs.Ranges.{Live}
 use Rattle.call_promises.specs.Sound.{Offered, runOf}
 use Rattle.call_promises.specs.Credit.{Account, purseOf, books, unopened}
-use Rattle.call_cases.specs.Edges.{nothing, message, Outcome, Case, AllHold, elementOf, rights, setup, silent, says}
+use Rattle.call_cases.specs.Cases.{nothing, message, Outcome, CallCase, AllCases, elementOf, rights, setup, silent, says}
 
 -- an event without an element
 abbrev pub bare : Event → Offered
@@ -40,7 +40,7 @@ unserved = setup 7 Request.Unasked Request.Unasked Request.Unasked 131 [] ∷ ba
 abbrev pub quietly : ℕ → ℕ → Phase → Outcome
 quietly n note p = record { answer = n; note = note; phase = p; calling = nothing; called = nothing }
 
-abbrev pub instances : List Case
+abbrev pub instances : List CallCase
 instances =
     record { before = served; event = bare Event.Tick; gives = quietly 0 0 Phase.Active }
     ∷ record { before = []; event = bare (Event.Alerting silent); gives = quietly 11 0 Phase.Fresh }
@@ -113,7 +113,7 @@ instances =
 
 -- INSTANCES. Runs that are answered each number but 25, and have each note.
 abbrev pub Instances : Type 0
-Instances = AllHold instances
+Instances = AllCases instances
 
 -- a run that ends live, as the promise of sound records asks
 abbrev pub Reached : Type 0

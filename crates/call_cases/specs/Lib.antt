@@ -1,4 +1,4 @@
-pub mod Edges
+pub mod Cases
 pub mod Instances
 pub mod Handed
 pub mod MoreInstances

@@ -12,7 +12,7 @@ use Rattle.event.specs.declared.Event.{Event}
 use Rattle.call.specs.Sound.{freshCall}
 use Rattle.call_promises.specs.Ranges.{RightsInRange}
 use Rattle.call_promises.specs.Sound.{Offered}
-use Rattle.call_cases.specs.Edges.{elementOf, setup, silent}
+use Rattle.call_cases.specs.Cases.{elementOf, setup, silent}
 use Rattle.call_cases.specs.Instances.{bare}
 use Rattle.call_promises.specs.Credit.{Purse, accountOf, unopened}
 use Rattle.call_promises.specs.MoreRights.{withRights, NoLess, Handed, handedOf}

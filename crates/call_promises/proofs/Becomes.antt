@@ -62,7 +62,7 @@ use Rattle.call_promises.specs.Numbers.{Core, Allowed, Has, ServesThree,
 use Rattle.call_promises.specs.Notes.{LacksRequired, Open}
 use Rattle.call_promises.specs.Handling.{Explicit, Implied}
 use Rattle.call_promises.specs.Sends.{Hears, Counts, FailsAt, Intact, CountPays, CreditPays, FirstDropped, Agreed, Accepting}
-use Rattle.call_promises.specs.Becomes.{altered, turnedTo, withMeter, askingFrom, topped, toppedBoth, Stands, unasked, preferred, required, implicit, lacking, Opens, ended, requested, filled, Earns, earns, earns-not, Answered, on, clears, Last, accepted, as-before, Refilled, adds, tops, Becomes, setup, alerting, connect, counts, pays, marks, drops, asks, accepts, rejects, refuses, disconnect, release, ticks, rests, Next, acts, bars, Left, BecomesExactly, Ran, stays, goes, History}
+use Rattle.call_promises.specs.Becomes.{altered, turnedTo, withMeter, askingFrom, topped, toppedBoth, Stands, unasked, preferred, required, implicit, lacking, Opens, ended, requested, newRecord, Earns, earns, earns-not, Answered, on, clears, Last, accepted, as-before, TickAdds, adds, tops, Becomes, setup, alerting, connect, counts, pays, marks, drops, asks, accepts, rejects, refuses, disconnect, release, ticks, rests, NextRecord, acts, bars, Left, BecomesExactly, Leads, stays, goes, History}
 use Rattle.call_promises.proofs.Conditions.{has, serves-three}
 use Rattle.call_promises.proofs.Notes.{lacks}
 use Rattle.call_promises.proofs.Phases.{fresh, connectable, talking, active, up, live}
@@ -78,15 +78,15 @@ left-by : {P : Call → Type 0} {c : Call} (d : Call) → c ≡ d → P d → ((
 left-by {P} d e p u n = ((λ h. subst P (sym e ∙ h) p), (λ x. e ∙ u n x))
 
 -- an event that is let through makes of the record what its reply has, and one that is stopped nothing
-acted : (c : Call) (l : List ℕ) (e : Event) {d : Call} → Hears c e → (n : Call) → Left (Becomes c l e) d → Next c l e n → d ≡ n
+acted : (c : Call) (l : List ℕ) (e : Event) {d : Call} → Hears c e → (n : Call) → Left (Becomes c l e) d → NextRecord c l e n → d ≡ n
 acted c l e h n f (acts x b) = f n .1 b
 acted c l e h n f (bars x) = absurd (x h)
 
-barred : (c : Call) (l : List ℕ) (e : Event) → (Hears c e → ⊥) → (n : Call) → Next c l e n → c ≡ n
+barred : (c : Call) (l : List ℕ) (e : Event) → (Hears c e → ⊥) → (n : Call) → NextRecord c l e n → c ≡ n
 barred c l e h n (acts x b) = absurd (h x)
 barred c l e h n (bars x) = refl
 
-let-left : (c : Call) (l : List ℕ) (e : Event) (a g : Bool) (r : Reply) {s : Reply} → Let c a g r s → Tests c e a g → Left (Becomes c l e) (r .call) → Left (Next c l e) (s .call)
+let-left : (c : Call) (l : List ℕ) (e : Event) (a g : Bool) (r : Reply) {s : Reply} → Let c a g r s → Tests c e a g → Left (Becomes c l e) (r .call) → Left (NextRecord c l e) (s .call)
 unfolding refusedOf
 let-left c l e a g r (through p q t) x f =
     let h = x .so p q t in λ n. ((λ k. acts h (f n .0 k)), (λ y. acted c l e h n f y))
@@ -170,12 +170,12 @@ module _ (c : Call) (n : ℕ) (r : Rights) (q : Requests) (l : List ℕ) where
 
   abbrev opened : Call
   opened =
-      filled n r (setupPhaseOf (lacksOf r q)) first-standing (askedStandingOf (q .two) (hasOf r Service.Two))
+      newRecord n r (setupPhaseOf (lacksOf r q)) first-standing (askedStandingOf (q .two) (hasOf r Service.Two))
       (askedStandingOf (q .three) (hasOf r Service.Three))
 
   setup-one : (d : Call) → Becomes c l (Event.Setup n r q) d → opened ≡ d
   setup-one d (setup o x y z) =
-      λ j. filled n r (opens-one o j) (stands-one r Service.One im is-implied (q .one) (implied-unasked (q .one) seen) x j) (asked-one r Service.Two (q .two) y j) (asked-one r Service.Three (q .three) z j)
+      λ j. newRecord n r (opens-one o j) (stands-one r Service.One im is-implied (q .one) (implied-unasked (q .one) seen) x j) (asked-one r Service.Two (q .two) y j) (asked-one r Service.Three (q .three) z j)
 
   setup-left : Left (Becomes c l (Event.Setup n r q)) (proceedsOf n r q seen .call)
   unfolding proceedsOf filledOf standingsOf firstStandingOf nobodyAsks emptyMeters emptyOf
@@ -421,11 +421,11 @@ module _ (c : Call) (l : List ℕ) (side : Side) where
 
 -- ---- a tick
 
-refilled-is : (r : Rights) (n : ℕ) → Refilled r n (refilledOf n (r .burst) (r .refill))
+refilled-is : (r : Rights) (n : ℕ) → TickAdds r n (refilledOf n (r .burst) (r .refill))
 unfolding refilledOf
-refilled-is r n = by-cond (Refilled r n) (leb (n + r .refill) (r .burst)) (λ h. adds (leb-true _ _ h)) (λ h. tops (leb-false _ _ h))
+refilled-is r n = by-cond (TickAdds r n) (leb (n + r .refill) (r .burst)) (λ h. adds (leb-true _ _ h)) (λ h. tops (leb-false _ _ h))
 
-refilled-one : (r : Rights) (n : ℕ) {m : ℕ} → Refilled r n m → refilledOf n (r .burst) (r .refill) ≡ m
+refilled-one : (r : Rights) (n : ℕ) {m : ℕ} → TickAdds r n m → refilledOf n (r .burst) (r .refill) ≡ m
 unfolding refilledOf
 refilled-one r n (adds h) = rw (le-leb _ _ h) refl
 refilled-one r n (tops h) = rw (lt-leb _ _ h) refl
@@ -461,7 +461,7 @@ module _ (c : Call) (l : List ℕ) where
 
 -- ---- any event
 
-no-event : (c : Call) (l : List ℕ) (e : Event) → (Allowed e (c .phase) → ⊥) → Left (Next c l e) (notAnEventOf c .call)
+no-event : (c : Call) (l : List ℕ) (e : Event) → (Allowed e (c .phase) → ⊥) → Left (NextRecord c l e) (notAnEventOf c .call)
 unfolding notAnEventOf refusedOf
 no-event c l e n =
     let h : Hears c e → ⊥ = (λ k. n (k .allowed)) in
@@ -487,15 +487,15 @@ becomes c Event.CongestionControl l = no-event c l _ (λ x. x)
 
 -- ---- runs
 
-ran-none : {c d : Call} → Ran c [] d → c ≡ d
+ran-none : {c d : Call} → Leads c [] d → c ≡ d
 ran-none stays = refl
 
 module _ (f : Core) (b : BecomesExactly f) where
-  ran-on : (c : Call) (o : Offered) (os : List Offered) (r : Call) → ((d : Call) → Left (Ran d os) (runOf f d os)) → Ran c (o ∷ os) r → runOf f (f c (o .event) (o .element) .call) os ≡ r
+  ran-on : (c : Call) (o : Offered) (os : List Offered) (r : Call) → ((d : Call) → Left (Leads d os) (runOf f d os)) → Leads c (o ∷ os) r → runOf f (f c (o .event) (o .element) .call) os ≡ r
   ran-on c o os r h (goes {d = d} n x) = ap (λ (k : Call). runOf f k os) (b c (o .event) (o .element) d .1 n) ∙ h d r .1 x
 
-  ran : (os : List Offered) (c : Call) → Left (Ran c os) (runOf f c os)
-  ran [] c d = ((λ h. subst (Ran c []) h stays), ran-none)
+  ran : (os : List Offered) (c : Call) → Left (Leads c os) (runOf f c os)
+  ran [] c d = ((λ h. subst (Leads c []) h stays), ran-none)
   ran (o ∷ os) c r = ((λ h. goes (b c (o .event) (o .element) _ .0 refl) (ran os _ r .0 h)), ran-on c o os r (ran os))
 
   -- whoever makes each record as the sentences say makes the history

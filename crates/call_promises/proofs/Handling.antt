@@ -48,7 +48,7 @@ use Rattle.call.specs.Tick.{passesTickOf, tickOf}
 use Rattle.call_promises.specs.Numbers.{WellFormed, InForce, Has, ServesTwo, ServesThree, meterFrom, other}
 use Rattle.call_promises.specs.Notes.{Bare, limitFor}
 use Rattle.call_promises.specs.Refusals.{sentTo}
-use Rattle.call_promises.specs.Handling.{handedIn, Goes, setup, alerting, connect, information, disconnect, Whole, Unaltered, Unnoted, Out, GoesOut, Explicit, Implied, Under, opening, alerted, connected, counted, credited, cleared, UnderAService}
+use Rattle.call_promises.specs.Handling.{handedIn, Goes, setup, alerting, connect, information, disconnect, HandedWhole, Unaltered, Unnoted, Out, GoesOut, Explicit, Implied, Under, opening, alerted, connected, counted, credited, cleared, UnderAService}
 use Rattle.logic.proofs.Decide.{never, by-cond, Decides, both, as-is, lt}
 use Rattle.call_promises.proofs.Heard.{bar-not-taken, Heard, through, barred, heard}
 use Rattle.call_promises.proofs.Conditions.{in-force, has, serves-two, serves-three}
@@ -269,7 +269,7 @@ module _ (c : Call) (e : Event) (l : List ℕ) where
   none Side.Calling Side.Called p b = plain-empty (stepOf c e l .calling) l b
   none Side.Called Side.Calling p b = plain-empty (stepOf c e l .called) l b
 
-  entire : (to : Side) (m : Message) → sentTo (stepOf c e l) to ≡ Sent.Present m → m .element ≡ true → Goes e to (m .kind) (m .more) → WellFormed l → length l ≤ limitFor c e → Plain (sentTo (stepOf c e l) (other to)) → Whole stepOf c e l to
+  entire : (to : Side) (m : Message) → sentTo (stepOf c e l) to ≡ Sent.Present m → m .element ≡ true → Goes e to (m .kind) (m .more) → WellFormed l → length l ≤ limitFor c e → Plain (sentTo (stepOf c e l) (other to)) → HandedWhole stepOf c e l to
   entire to m h t g w k b =
       record {
         own = rw (h, t) refl;
@@ -287,17 +287,17 @@ module _ (c : Call) (e : Event) (l : List ℕ) where
   way-out to h (goes {m} t g w k u n) b =
       record { unnoted = λ _ _ _. (to, entire to m h t g w k b); dropped = λ x. absurd (x n) }
 
-  way-whole : (side : Side) {s : Sent} → sentTo (stepOf c e l) side ≡ s → OnTheWay side s → Plain (sentTo (stepOf c e l) (other side)) → (handedIn s l ≡ [] → ⊥) → Whole stepOf c e l side × Under c l (stepOf c e l .call) e
+  way-whole : (side : Side) {s : Sent} → sentTo (stepOf c e l) side ≡ s → OnTheWay side s → Plain (sentTo (stepOf c e l) (other side)) → (handedIn s l ≡ [] → ⊥) → HandedWhole stepOf c e l side × Under c l (stepOf c e l .call) e
   way-whole side {s} h (plain p f) b n = absurd (n (plain-empty s l p))
   way-whole side h (goes {m} t g w k u _) b n = (entire side m h t g w k b, u)
 
-  reaches : (side to : Side) → OnTheWay to (sentTo (stepOf c e l) to) → Plain (sentTo (stepOf c e l) (other to)) → (handedIn (sentTo (stepOf c e l) side) l ≡ [] → ⊥) → Whole stepOf c e l side × Under c l (stepOf c e l .call) e
+  reaches : (side to : Side) → OnTheWay to (sentTo (stepOf c e l) to) → Plain (sentTo (stepOf c e l) (other to)) → (handedIn (sentTo (stepOf c e l) side) l ≡ [] → ⊥) → HandedWhole stepOf c e l side × Under c l (stepOf c e l .call) e
   reaches Side.Calling Side.Calling w b n = way-whole Side.Calling refl w b n
   reaches Side.Called Side.Called w b n = way-whole Side.Called refl w b n
   reaches Side.Calling Side.Called w b n = absurd (n (plain-empty (stepOf c e l .calling) l b))
   reaches Side.Called Side.Calling w b n = absurd (n (plain-empty (stepOf c e l .called) l b))
 
-handled : (c : Call) (e : Event) (l : List ℕ) (side : Side) → (handedIn (sentTo (stepOf c e l) side) l ≡ [] → ⊥) → Whole stepOf c e l side × Under c l (stepOf c e l .call) e
+handled : (c : Call) (e : Event) (l : List ℕ) (side : Side) → (handedIn (sentTo (stepOf c e l) side) l ≡ [] → ⊥) → HandedWhole stepOf c e l side × Under c l (stepOf c e l .call) e
 handled c e l side = let p = passes c e l in reaches c e l side (p .to) (p .on) (p .back)
 
 pub unaltered : Unaltered stepOf

@@ -34,7 +34,7 @@ use Rattle.call.specs.Tick.{runsOf, passesTickOf, tickOf}
 use Rattle.call_promises.specs.Ranges.{Within, MeterInRange, InRangeCall}
 use Rattle.call_promises.specs.Numbers.{WellFormed, ServesThree, meterFrom, other}
 use Rattle.call_promises.specs.Refusals.{notReady}
-use Rattle.call_promises.specs.LentMeter.{Told, SpendsAlike, LentSpending, ready, TicksAlike, LentTicking, LentSample, LentMet}
+use Rattle.call_promises.specs.LentMeter.{ToldServices, SpendsAlike, LentSpending, ready, TicksAlike, LentTicking, LentSample, LentMet}
 use Rattle.logic.proofs.Decide.{never, by-cond, Decides, both, le}
 use Rattle.call_promises.proofs.Conditions.{serves-two, serves-three}
 use Rattle.call_promises.proofs.Phases.{talking, live}
@@ -142,7 +142,7 @@ carried-so : (c : Call) (side : Side) (more : Bool) (l : List ℕ) → InRangeCa
 unfolding informationOf withElementOf
 carried-so c side more l i a w = hears c (talkingOf (c .phase)) _ i a ∙ simp w
 
-passage-so : (c : Call) (side : Side) (two three : Bool) → Told c side two three → informationPassageOf c side ≡ passageOf (meterOf (c .meters) side) two three
+passage-so : (c : Call) (side : Side) (two three : Bool) → ToldServices c side two three → informationPassageOf c side ≡ passageOf (meterOf (c .meters) side) two three
 unfolding informationPassageOf
 passage-so c side two three t =
     let e = alike _ _ (serves-two c side) (record { so = t .service2 .0; back = t .service2 .1 }) in

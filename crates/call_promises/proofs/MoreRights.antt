@@ -60,7 +60,7 @@ use Rattle.call.specs.Tick.{runsOf, passesTickOf, tickOf}
 use Rattle.call_promises.specs.Ranges.{Live, InRangeCall}
 use Rattle.call_promises.specs.Sound.{Offered, runOf}
 use Rattle.call_promises.specs.Handling.{handedIn}
-use Rattle.call_promises.specs.MoreRights.{eventWith, withRights, NoLess, handedOf, Kept, NoFewer, end, also, InStep, MoreRights}
+use Rattle.call_promises.specs.MoreRights.{eventWith, withRights, NoLess, handedOf, HandedToo, NoFewer, end, also, InStep, MoreRights}
 use Rattle.logic.proofs.Decide.{never}
 use Rattle.call_promises.proofs.Heard.{Heard, through, barred, heard}
 use Rattle.call_promises.proofs.Phases.{requested, connectable, talking, active, up, live}
@@ -666,7 +666,7 @@ kept-cond : (b b' : Bool) (l : List ℕ) → (b ≡ true → b' ≡ true) → (c
 kept-cond true b' l f h = rw (f refl) refl
 kept-cond false b' l f h = absurd (h refl)
 
-kept : (s t : Sent) (l : List ℕ) → Gives s t → Kept (handedIn s l) (handedIn t l)
+kept : (s t : Sent) (l : List ℕ) → Gives s t → HandedToo (handedIn s l) (handedIn t l)
 kept s t l f h = handed-is t l ∙ (kept-cond _ _ l f (λ e. h (handed-is s l ∙ e)) ∙ sym (handed-is s l))
 
 module _ (r r' : Rights) (n : NoLess r r') where

@@ -51,7 +51,7 @@ use Rattle.call_promises.specs.Ranges.{Unsound}
 use Rattle.call_promises.specs.Numbers.{Allowed, OutOfRange, ServesTwo, ServesThree, AskedRequired, NotGranted, NotOpen, meterFrom}
 use Rattle.call_promises.specs.Notes.{Open, NotCarried, limitFor}
 use Rattle.call_promises.specs.Services.{standingFor}
-use Rattle.call_promises.specs.Sends.{Hears, Flags, Rides, Due, ringing, third, first, second, Counts, Settles, accepted, declined, kept, FailsAt, Turned, turned, unturned, Below, one-two, one-three, two-three, Lowest, Blames, rejected, unanswered, Intact, CountPays, CreditServes, CreditPays, FirstDropped, Agreed}
+use Rattle.call_promises.specs.Sends.{Hears, Flags, Rides, Due, ringing, third, first, second, Counts, Settles, accepted, declined, kept, FailsAt, TurnedDown, turned, unturned, Below, one-two, one-three, two-three, LowestFailed, Blames, rejected, unanswered, Intact, CountPays, CreditServes, CreditPays, FirstDropped, Agreed}
 use Rattle.call_promises.proofs.Heard.{Bar, unsound, phase, range}
 use Rattle.call_promises.proofs.Conditions.{serves-two, serves-three}
 use Rattle.call_promises.proofs.Numbers.{say-rows}
@@ -261,14 +261,14 @@ module _ (c : Call) (e : Event) (k : Service) where
       (ap (settledOf now) z, ap toldOf z)
 
   -- what is said of it where the call is cleared
-  turned-due : (g : Given) → Due (c .phase) e k g → ((h : Given) → Due (c .phase) e k h → g ≡ h) → {f : Fate} → Decision now g f → Turned c e k (declinedOf f)
+  turned-due : (g : Given) → Due (c .phase) e k g → ((h : Given) → Due (c .phase) e k h → g ≡ h) → {f : Fate} → Decision now g f → TurnedDown c e k (declinedOf f)
   turned-due g d u (stays n) = unturned (λ h x. absurd (n (x .asked)))
   turned-due g d u (grants o t) = unturned (λ h x. sym (u h (x .due)) ∙ t)
   turned-due g d u (closes s n) = turned (record { due = d; asked = inl s }) n
   turned-due g d u (rejects s t) = turned (record { due = d; asked = inr s }) (λ x. rejection-no (sym t ∙ x))
   turned-due g d u (lacks s t) = turned (record { due = d; asked = inr s }) (λ x. silence-no (sym t ∙ x))
 
-  pub turned-is : {f : Fate} → View (c .phase) e k now f → Turned c e k (declinedOf f)
+  pub turned-is : {f : Fate} → View (c .phase) e k now f → TurnedDown c e k (declinedOf f)
   turned-is (idle n) = unturned (λ g x. absurd (n g (x .due)))
   turned-is (asked g d u) = turned-due g d u (decision now g)
 
@@ -279,7 +279,7 @@ module _ (c : Call) (e : Event) (k : Service) where
   turned-nothing g d (rejects s t) m = absurd (rejection-no (sym t ∙ m g (record { due = d; asked = inr s })))
   turned-nothing g d (lacks s t) m = absurd (silence-no (sym t ∙ m g (record { due = d; asked = inr s })))
 
-  pub turned-one : {f : Fate} {x : Said} → View (c .phase) e k now f → Turned c e k x → declinedOf f ≡ x
+  pub turned-one : {f : Fate} {x : Said} → View (c .phase) e k now f → TurnedDown c e k x → declinedOf f ≡ x
   turned-one (idle n) (turned a m) = absurd (n _ (a .due))
   turned-one (idle n) (unturned m) = refl
   turned-one (asked g d u) (turned a m) = sym (shut-declined (shut-by now g (a .asked) (λ w. m (sym (u _ (a .due)) ∙ w))))
@@ -348,7 +348,7 @@ module _ (c : Call) (e : Event) where
   mixed x = let z : _≡_ {A = ℕ} 0 1 = cc x in omega arith
 
   -- the service of a lowest failure is one only, and so is its cause
-  moved : (k : Service) (g : Given) → FailsAt c e k g → Free k → (j : Service) (h : Given) → Lowest c e j h → FailsAt c e k h
+  moved : (k : Service) (g : Given) → FailsAt c e k g → Free k → (j : Service) (h : Given) → LowestFailed c e j h → FailsAt c e k h
   moved k g x f j h l = subst (λ i. FailsAt c e i h) (sym (one-cause k g x f j h (l .fails) (l .lower))) (l .fails)
 
   only-29 : (k : Service) → FailsAt c e k Given.Rejected → Free k → ((g : Given) → FailsAt c e k g → g ≡ Given.Rejected) → (m : ℕ) → Blames c e m → 29 ≡ m

@@ -62,7 +62,7 @@ use Rattle.call_promises.specs.Notes.{LacksRequired, Open, NotCarried, l
 use Rattle.call_promises.specs.Refusals.{sentTo}
 use Rattle.call_promises.specs.Handling.{Explicit}
 use Rattle.call_promises.specs.Services.{answerFor, standingFor}
-use Rattle.call_promises.specs.Sends.{Hears, Flags, Rides, telling, curt, congested, informing, Denied, denied, undenied, Remaining, preferred, required, gone, FailsAt, Blames, rejected, unanswered, Answering, on, clears, clears-too, Intact, CountPays, CreditPays, FirstDropped, Agreed, Worded, request, accept, reject, Pending, Rejecting, Accepting, LastWord, rejects, accepts, mute, Sends, released, proceeding, setup, alerting, connect, passes, warns, facility, refuses, disconnect, release, ready, Told, SendsExactly}
+use Rattle.call_promises.specs.Sends.{Hears, Flags, Rides, telling, curt, congested, informing, Denied, denied, undenied, Remaining, preferred, required, gone, FailsAt, Blames, rejected, unanswered, Answering, on, clears, clears-too, Intact, CountPays, CreditPays, FirstDropped, Agreed, Worded, request, accept, reject, Pending, Rejecting, Accepting, LastWord, rejects, accepts, mute, Sends, released, proceeding, setup, alerting, connect, passes, warns, facility, refuses, disconnect, release, ready, IsWhatIsSent, SendsExactly}
 use Rattle.call_promises.proofs.Conditions.{in-force, has, serves-three}
 use Rattle.call_promises.proofs.Notes.{lacks, setup-carries, alerting-carries, connect-carries, disconnect-comes, carriesOf, failsOf, any-fails}
 use Rattle.call_promises.proofs.Phases.{fresh, requested, connectable, talking, active, up, live}
@@ -77,28 +77,28 @@ abbrev within : Message → Sent → Message
 within d Sent.Absent = d
 within d (Sent.Present m) = m
 
-told-by : {P : Message → Type 0} {s : Sent} (m : Message) → s ≡ Sent.Present m → P m → ((n : Message) → P n → m ≡ n) → Told P s
+told-by : {P : Message → Type 0} {s : Sent} (m : Message) → s ≡ Sent.Present m → P m → ((n : Message) → P n → m ≡ n) → IsWhatIsSent P s
 told-by {P} m e p u n = ((λ h. subst P (ap (within m) (sym e ∙ h)) p), (λ x. e ∙ ap Sent.Present (u n x)))
 
 none-sent : {m : Message} → Sent.Absent ≡ Sent.Present m → ⊥
 none-sent {m} e = let z : _≡_ {A = ℕ} 0 1 = cc in omega arith
 
-told-none : {P : Message → Type 0} {s : Sent} → s ≡ Sent.Absent → ((n : Message) → P n → ⊥) → Told P s
+told-none : {P : Message → Type 0} {s : Sent} → s ≡ Sent.Absent → ((n : Message) → P n → ⊥) → IsWhatIsSent P s
 told-none e f n = ((λ h. absurd (none-sent (sym e ∙ h))), (λ x. absurd (f n x)))
 
-unheard : (c : Call) (e : Event) (l : List ℕ) (side : Side) (a g : Bool) → (soundOf c ≡ true → a ≡ true → g ≡ true → ⊥) → Tests c e a g → Told (λ m. Hears c e × Sends c l e side m) Sent.Absent
+unheard : (c : Call) (e : Event) (l : List ℕ) (side : Side) (a g : Bool) → (soundOf c ≡ true → a ≡ true → g ≡ true → ⊥) → Tests c e a g → IsWhatIsSent (λ m. Hears c e × Sends c l e side m) Sent.Absent
 unheard c e l side a g n x =
     told-none {P = λ m. Hears c e × Sends c l e side m} refl (λ k y. let t = x .back (y .0) in n (t .0) (t .1) (t .2))
 
 -- an event that is let through sends what its reply sends, and one that is stopped nothing
-let-told : (c : Call) (e : Event) (l : List ℕ) (side : Side) (a g : Bool) (r : Reply) {s : Reply} → Let c a g r s → Tests c e a g → Told (Sends c l e side) (sentTo r side) → Told (λ m. Hears c e × Sends c l e side m) (sentTo s side)
+let-told : (c : Call) (e : Event) (l : List ℕ) (side : Side) (a g : Bool) (r : Reply) {s : Reply} → Let c a g r s → Tests c e a g → IsWhatIsSent (Sends c l e side) (sentTo r side) → IsWhatIsSent (λ m. Hears c e × Sends c l e side m) (sentTo s side)
 unfolding refusedOf
 let-told c e l side a g r (through p q t) x f m = ((λ h. (x .so p q t, f m .0 h)), (λ y. f m .1 (y .1)))
 let-told c e l Side.Calling a g r (stopped n b) x f m = unheard c e l Side.Calling a g n x m
 let-told c e l Side.Called a g r (stopped n b) x f m = unheard c e l Side.Called a g n x m
 
 -- a reply to one side's event
-reply-told : (P : Side → Message → Type 0) (side : Side) (d : Call) (a : Answer) (note : Note) (back far : Sent) → Told (P side) back → Told (P (other side)) far → (to : Side) → Told (P to) (sentTo (replyOf side d a note back far) to)
+reply-told : (P : Side → Message → Type 0) (side : Side) (d : Call) (a : Answer) (note : Note) (back far : Sent) → IsWhatIsSent (P side) back → IsWhatIsSent (P (other side)) far → (to : Side) → IsWhatIsSent (P to) (sentTo (replyOf side d a note back far) to)
 unfolding replyOf
 reply-told P Side.Calling d a note back far p q Side.Calling = p
 reply-told P Side.Calling d a note back far p q Side.Called = q
@@ -163,13 +163,13 @@ module _ (c : Call) (n : ℕ) (r : Rights) (q : Requests) (l : List ℕ) where
   proceeding-one y m (proceeding x a b d) =
       λ j. telling Kind.CallProceeding Cause.Absent (denied-one r Service.One (q .one) a j) (denied-one r Service.Two (q .two) b j) (denied-one r Service.Three (q .three) d j) false
 
-  caller-told : Told (Sends c l asked Side.Calling) (toCallerOf (lacksOf r q) (networkRefusalsOf r q))
+  caller-told : IsWhatIsSent (Sends c l asked Side.Calling) (toCallerOf (lacksOf r q) (networkRefusalsOf r q))
   unfolding toCallerOf networkRefusalsOf sayingOf
   caller-told =
       let d = denied-is r Service.One (q .one) in
       let e = denied-is r Service.Two (q .two) in
       let f = denied-is r Service.Three (q .three) in
-      by-cond (Told (Sends c l asked Side.Calling)) (lacksOf r q)
+      by-cond (IsWhatIsSent (Sends c l asked Side.Calling)) (lacksOf r q)
       (λ y. told-by (refusals Kind.ReleaseComplete (Cause.Value 50)) refl (released (lacks r q .so y) d e f) (released-one (lacks r q .so y)))
       (λ y.
       let g = denies _ (lacks r q) .so y in
@@ -187,18 +187,18 @@ module _ (c : Call) (n : ℕ) (r : Rights) (q : Requests) (l : List ℕ) where
   setup-one b g m (setup x a s d f) =
       λ j. telling Kind.Setup Cause.Absent (remaining-one r Service.One (q .one) a j) (remaining-one r Service.Two (q .two) s j) (remaining-one r Service.Three (q .three) d j) (one-flag g f j)
 
-  called-told : Told (Sends c l asked Side.Called) (toCalledOf (lacksOf r q) (passedRequestsOf r q) (goesOutOf (seenOf l (r .limit)) (setupCarriesOf r q (seenOf l (r .limit)))))
+  called-told : IsWhatIsSent (Sends c l asked Side.Called) (toCalledOf (lacksOf r q) (passedRequestsOf r q) (goesOutOf (seenOf l (r .limit)) (setupCarriesOf r q (seenOf l (r .limit)))))
   unfolding toCalledOf passedRequestsOf sayingOf
   called-told =
       let s = seenOf l (r .limit) in
       let b = rides c asked l (setupCarriesOf r q s) (sight l (r .limit)) (setup-carries c n r q s) in
-      by-cond (Told (Sends c l asked Side.Called)) (lacksOf r q) (λ y. told-none refl (no-setup (lacks r q .so y)))
+      by-cond (IsWhatIsSent (Sends c l asked Side.Called)) (lacksOf r q) (λ y. told-none refl (no-setup (lacks r q .so y)))
       (λ y.
       told-by (onward (goesOutOf s (setupCarriesOf r q s))) refl
       (setup (denies _ (lacks r q) .so y) (remaining-is r Service.One (q .one)) (remaining-is r Service.Two (q .two)) (remaining-is r Service.Three (q .three)) b)
       (setup-one _ b))
 
-  setup-told : (side : Side) → Told (Sends c l asked side) (sentTo (proceedsOf n r q (seenOf l (r .limit))) side)
+  setup-told : (side : Side) → IsWhatIsSent (Sends c l asked side) (sentTo (proceedsOf n r q (seenOf l (r .limit))) side)
   unfolding proceedsOf
   setup-told Side.Calling = caller-told
   setup-told Side.Called = called-told
@@ -234,7 +234,7 @@ module _ (c : Call) (l : List ℕ) (e : Event) (kind : Kind) (next : Phase) (f :
       called-one : (m : Message) → Answering c l e kind Side.Called m → curt Kind.Disconnect (Cause.Value 31) ≡ m
       called-one m (clears-too x) = refl
 
-      pub answering-told : {seen : Seen} (x : Cause) → Outcome c e x → Sight l (limitFor c e) seen → Denies (not (failsOf x) && inForceOf (settledOf (c .standings .one) (f .one))) (NotCarried c e) → (side : Side) → Told (Answering c l e kind side) (sentTo (answeringOf c kind next f seen x) side)
+      pub answering-told : {seen : Seen} (x : Cause) → Outcome c e x → Sight l (limitFor c e) seen → Denies (not (failsOf x) && inForceOf (settledOf (c .standings .one) (f .one))) (NotCarried c e) → (side : Side) → IsWhatIsSent (Answering c l e kind side) (sentTo (answeringOf c kind next f seen x) side)
       unfolding goesOnOf clearsOf answeredCallOf settlesOf tellsOf declinesOf bareOf sayingOf silence
       answering-told Cause.Absent (sound n) v d Side.Calling =
           let b = rides c e l _ v (λ _. d) in
@@ -245,7 +245,7 @@ module _ (c : Call) (l : List ℕ) (e : Event) (kind : Kind) (next : Phase) (f :
       answering-told (Cause.Value n) (fails k g x b u) v d Side.Called = told-by (curt Kind.Disconnect (Cause.Value 31)) refl (clears-too x) called-one
 
 -- what is said of an answering message is said of its event
-wrapped : {P Q : Message → Type 0} {s : Sent} → ((m : Message) → P m → Q m) → ((m : Message) → Q m → P m) → Told P s → Told Q s
+wrapped : {P Q : Message → Type 0} {s : Sent} → ((m : Message) → P m → Q m) → ((m : Message) → Q m → P m) → IsWhatIsSent P s → IsWhatIsSent Q s
 wrapped f g t m = ((λ h. f m (t m .0 h)), (λ q. t m .1 (g m q)))
 
 abbrev carrying : Standing → Fates → Bool
@@ -266,7 +266,7 @@ module _ (c : Call) (a : Answers) (l : List ℕ) where
   connected : (side : Side) (m : Message) → Sends c l (Event.Connect a) side m → Answering c l (Event.Connect a) Kind.Connect side m
   connected side m (connect x) = x
 
-  alerting-told : (side : Side) → Told (Sends c l (Event.Alerting a) side) (sentTo (answeredOf c Kind.Alerting Phase.Alerting (alertingFatesOf (c .standings) a) l) side)
+  alerting-told : (side : Side) → IsWhatIsSent (Sends c l (Event.Alerting a) side) (sentTo (answeredOf c Kind.Alerting Phase.Alerting (alertingFatesOf (c .standings) a) l) side)
   unfolding answeredOf failedOf
   alerting-told side =
       let e = Event.Alerting a in
@@ -278,7 +278,7 @@ module _ (c : Call) (a : Answers) (l : List ℕ) where
       (outcome c e (failure c e Service.One x) (failure c e Service.Two y) (failure c e Service.Three z))
       (sight l (c .rights .limit)) (alerting-denies c a) side)
 
-  connect-told : (side : Side) → Told (Sends c l (Event.Connect a) side) (sentTo (answeredOf c Kind.Connect Phase.Active (connectFatesOf (not (requestedOf (c .phase))) (c .standings) a) l) side)
+  connect-told : (side : Side) → IsWhatIsSent (Sends c l (Event.Connect a) side) (sentTo (answeredOf c Kind.Connect Phase.Active (connectFatesOf (not (requestedOf (c .phase))) (c .standings) a) l) side)
   unfolding answeredOf failedOf
   connect-told side =
       let e = Event.Connect a in
@@ -313,7 +313,7 @@ module _ (c : Call) (l : List ℕ) (side : Side) (more : Bool) where
   not-passed n o m (passes e x) = ⊎-elim n o x
   not-passed n o m (warns e x) = not-other side (sym e)
 
-  sender-told : {n : Meter} {p : Passage} → Met c l side n p → Told (Sends c l informs side) (toSenderOf p)
+  sender-told : {n : Meter} {p : Passage} → Met c l side n p → IsWhatIsSent (Sends c l informs side) (toSenderOf p)
   unfolding onlyIfOf congestionOf silence
   sender-told (counted x) = told-none refl (not-warned (λ y. paid-once x (y .credit)))
   sender-told (paid x) = told-none refl (not-warned (λ y. left-once x y))
@@ -321,7 +321,7 @@ module _ (c : Call) (l : List ℕ) (side : Side) (more : Bool) where
   sender-told (spent a b d) = told-none refl (not-warned d)
   sender-told (unserved a b d) = told-none refl (not-warned d)
 
-  receiver-told : {n : Meter} {p : Passage} → Met c l side n p → Told (Sends c l informs (other side)) (toReceiverOf p more)
+  receiver-told : {n : Meter} {p : Passage} → Met c l side n p → IsWhatIsSent (Sends c l informs (other side)) (toReceiverOf p more)
   unfolding onlyIfOf informsOf silence
   receiver-told (counted x) = told-by (informing more) refl (passes refl (inl x)) only-passed
   receiver-told (paid x) = told-by (informing more) refl (passes refl (inr x)) only-passed
@@ -335,17 +335,17 @@ module _ (c : Call) (l : List ℕ) (side : Side) (more : Bool) where
   damaged n to m (passes e (inr x)) = n (x .credit .intact)
   damaged n to m (warns e x) = n (x .credit .intact)
 
-  refused-told : (a : Answer) (note : Note) → (Intact c l → ⊥) → (to : Side) → Told (Sends c l informs to) (sentTo (refusedOf c a note) to)
+  refused-told : (a : Answer) (note : Note) → (Intact c l → ⊥) → (to : Side) → IsWhatIsSent (Sends c l informs to) (sentTo (refusedOf c a note) to)
   unfolding refusedOf
   refused-told a note n Side.Calling = told-none refl (damaged n Side.Calling)
   refused-told a note n Side.Called = told-none refl (damaged n Side.Called)
 
-  carried-told : Intact c l → (to : Side) → Told (Sends c l informs to) (sentTo (carriedOf c side more (informationPassageOf c side)) to)
+  carried-told : Intact c l → (to : Side) → IsWhatIsSent (Sends c l informs to) (sentTo (carriedOf c side more (informationPassageOf c side)) to)
   unfolding carriedOf
   carried-told i to =
       let x = met c l side i in reply-told (Sends c l informs) side _ _ _ _ _ (sender-told x) (receiver-told x) to
 
-  information-told : {s : Seen} → Sight l (c .rights .limit) s → (to : Side) → Told (Sends c l informs to) (sentTo (withElementOf c s (carriedOf c side more (informationPassageOf c side))) to)
+  information-told : {s : Seen} → Sight l (c .rights .limit) s → (to : Side) → IsWhatIsSent (Sends c l informs to) (sentTo (withElementOf c s (carriedOf c side more (informationPassageOf c side))) to)
   unfolding withElementOf
   information-told (absent z) to = refused-told _ _ (λ i. let k = i .formed .least in omega arith) to
   information-told (malformed z w) to = refused-told _ _ (λ i. w (i .formed)) to
@@ -388,19 +388,19 @@ module _ (c : Call) (l : List ℕ) (side : Side) where
   not-facility what n m (facility e x w) = n x
   not-facility what n m (refuses e x y) = not-other side (sym e)
 
-  asker-told : (what : What) (v : Answer) → Verdict c (says what) (takenOf v) (notGrantedOf v) → Told (Sends c l (says what) side) (toAskerOf v)
+  asker-told : (what : What) (v : Answer) → Verdict c (says what) (takenOf v) (notGrantedOf v) → IsWhatIsSent (Sends c l (says what) side) (toAskerOf v)
   unfolding onlyIfOf aboutThreeOf sayingOf
   asker-told what v (agreed a t b) = rw b (told-none refl (not-refused what (λ _ y. a .granted y)))
   asker-told what v (ungranted x y t b) = rw b (told-by (aboutThree Said.ByNetwork) refl (refuses refl x y) (only-refused what))
   asker-told what v (neither n o t b) = rw b (told-none refl (not-refused what o))
 
-  other-told : (what : What) (v : Answer) → Verdict c (says what) (takenOf v) (notGrantedOf v) → Told (Sends c l (says what) (other side)) (toOtherOf v what)
+  other-told : (what : What) (v : Answer) → Verdict c (says what) (takenOf v) (notGrantedOf v) → IsWhatIsSent (Sends c l (says what) (other side)) (toOtherOf v what)
   unfolding onlyIfOf aboutThreeOf sayingOf
   other-told what v (agreed a t b) = rw t (told-by (aboutThree (facilitySaidOf what)) refl (facility refl a (worded-is what a)) (only-facility what))
   other-told what v (ungranted x y t b) = rw t (told-none refl (not-facility what (λ a. a .granted y)))
   other-told what v (neither n o t b) = rw t (told-none refl (not-facility what n))
 
-  facility-told : (what : What) (to : Side) → Told (Sends c l (says what) to) (sentTo (passesFacilityOf c side what (facilityVerdictOf c side what)) to)
+  facility-told : (what : What) (to : Side) → IsWhatIsSent (Sends c l (says what) to) (sentTo (passesFacilityOf c side what (facilityVerdictOf c side what)) to)
   unfolding passesFacilityOf
   facility-told what to =
       let v = facilityVerdictOf c side what in
@@ -502,7 +502,7 @@ module _ (c : Call) (l : List ℕ) (side : Side) (cause : ℕ) (a : Answers) whe
   not-back : (m : Message) → Sends c l clearing side m → ⊥
   not-back m (disconnect e x y z g) = not-other side e
 
-  disconnect-told : (to : Side) → Told (Sends c l clearing to) (sentTo (passedOnOf c side cause (heardAnswersOf side a) (seenOf l (c .rights .limit))) to)
+  disconnect-told : (to : Side) → IsWhatIsSent (Sends c l clearing to) (sentTo (passedOnOf c side cause (heardAnswersOf side a) (seenOf l (c .rights .limit))) to)
   unfolding passedOnOf sayingOf
   disconnect-told to =
       let s = sight l (c .rights .limit) in
@@ -517,7 +517,7 @@ module _ (c : Call) (l : List ℕ) (side : Side) where
   not-released : (m : Message) → Sends c l (Event.ReleaseComplete side) side m → ⊥
   not-released m (release e) = not-other side e
 
-  release-told : (to : Side) → Told (Sends c l (Event.ReleaseComplete side) to) (sentTo (endsOf c side) to)
+  release-told : (to : Side) → IsWhatIsSent (Sends c l (Event.ReleaseComplete side) to) (sentTo (endsOf c side) to)
   unfolding endsOf bareOf sayingOf silence
   release-told to =
       reply-told (Sends c l (Event.ReleaseComplete side)) side _ _ _ _ _ (told-none refl not-released)
@@ -532,27 +532,27 @@ module _ (c : Call) (l : List ℕ) where
   not-ready : (side : Side) → (ServesThree c → meterFrom c side .mark ≡ true → ⊥) → (m : Message) → Sends c l Event.Tick side m → ⊥
   not-ready side n m (ready s k) = n s k
 
-  ready-told : (side : Side) → Told (Sends c l Event.Tick side) (readyOf (meterFrom c side) (runsOf c))
+  ready-told : (side : Side) → IsWhatIsSent (Sends c l Event.Tick side) (readyOf (meterFrom c side) (runsOf c))
   unfolding readyOf onlyIfOf congestionOf silence runsOf
   ready-told side =
       let d = both _ _ (serves-three c) (as-is (meterFrom c side .mark)) in
-      by-cond (Told (Sends c l Event.Tick side)) (servesThreeOf (c .phase) (inForceOf (c .standings .three)) && meterFrom c side .mark)
+      by-cond (IsWhatIsSent (Sends c l Event.Tick side)) (servesThreeOf (c .phase) (inForceOf (c .standings .three)) && meterFrom c side .mark)
       (λ h. let t = d .so h in told-by (congested Level.Ready) refl (ready (t .0) (t .1)) (ready-one side))
       (λ h. told-none refl (not-ready side (λ s k. never (d .back (s, k)) h)))
 
-  tick-told : (side : Side) → Told (Sends c l Event.Tick side) (sentTo (passesTickOf c) side)
+  tick-told : (side : Side) → IsWhatIsSent (Sends c l Event.Tick side) (sentTo (passesTickOf c) side)
   unfolding passesTickOf
   tick-told Side.Calling = ready-told Side.Calling
   tick-told Side.Called = ready-told Side.Called
 
 -- ---- any event
 
-none-told : (c : Call) (e : Event) (l : List ℕ) (side : Side) → (Allowed e (c .phase) → ⊥) → (a : Answer) (note : Note) → Told (λ m. Hears c e × Sends c l e side m) (sentTo (refusedOf c a note) side)
+none-told : (c : Call) (e : Event) (l : List ℕ) (side : Side) → (Allowed e (c .phase) → ⊥) → (a : Answer) (note : Note) → IsWhatIsSent (λ m. Hears c e × Sends c l e side m) (sentTo (refusedOf c a note) side)
 unfolding refusedOf
 none-told c e l Side.Calling n a note = told-none {P = λ m. Hears c e × Sends c l e Side.Calling m} refl (λ m x. n (x .0 .allowed))
 none-told c e l Side.Called n a note = told-none {P = λ m. Hears c e × Sends c l e Side.Called m} refl (λ m x. n (x .0 .allowed))
 
-no-event : (c : Call) (e : Event) (l : List ℕ) (side : Side) → (Allowed e (c .phase) → ⊥) → Told (λ m. Hears c e × Sends c l e side m) (sentTo (notAnEventOf c) side)
+no-event : (c : Call) (e : Event) (l : List ℕ) (side : Side) → (Allowed e (c .phase) → ⊥) → IsWhatIsSent (λ m. Hears c e × Sends c l e side m) (sentTo (notAnEventOf c) side)
 unfolding notAnEventOf
 no-event c e l side n = none-told c e l side n _ _
 

@@ -80,8 +80,8 @@ pub data Opens (r : Rights) (q : Requests) : Phase → Type 0 where
   requested : (LacksRequired r q → ⊥) → Opens r q Phase.Requested
 
 -- "SETUP fills the whole record, used for one call"
-abbrev pub filled : ℕ → Rights → Phase → Standing → Standing → Standing → Call
-filled n r p one two three =
+abbrev pub newRecord : ℕ → Rights → Phase → Standing → Standing → Standing → Call
+newRecord n r p one two three =
     record {
       reference = n;
       rights = r;
@@ -114,16 +114,16 @@ pub data Last (c : Call) (side : Side) (g : Given) : Standing → Type 0 where
   as-before : (Accepting c side Service.One g → ⊥) → Last c side g (c .standings .one)
 
 -- "A tick adds Y, to at most X."
-pub data Refilled (r : Rights) (n : ℕ) : ℕ → Type 0 where
-  adds : n + r .refill ≤ r .burst → Refilled r n (n + r .refill)
-  tops : r .burst < n + r .refill → Refilled r n (r .burst)
+pub data TickAdds (r : Rights) (n : ℕ) : ℕ → Type 0 where
+  adds : n + r .refill ≤ r .burst → TickAdds r n (n + r .refill)
+  tops : r .burst < n + r .refill → TickAdds r n (r .burst)
 
 -- What the record is after an event that is acted on.
 pub data Becomes (c : Call) (l : List ℕ) : Event → Call → Type 0 where
   setup :
       {n : ℕ} {r : Rights} {q : Requests} {p : Phase} {one two three : Standing} → Opens r q p →
       Stands r Service.One (q .one) (Implied r q l) one → Stands r Service.Two (q .two) ⊥ two → Stands r Service.Three (q .three) ⊥ three →
-      Becomes c l (Event.Setup n r q) (filled n r p one two three)
+      Becomes c l (Event.Setup n r q) (newRecord n r p one two three)
   alerting : {a : Answers} {d : Call} → Answered c (Event.Alerting a) Phase.Alerting d → Becomes c l (Event.Alerting a) d
   connect : {a : Answers} {d : Call} → Answered c (Event.Connect a) Phase.Active d → Becomes c l (Event.Connect a) d
   -- "service 2, two messages each way"
@@ -165,7 +165,7 @@ pub data Becomes (c : Call) (l : List ℕ) : Event → Call → Type 0 where
   release : {side : Side} → Becomes c l (Event.ReleaseComplete side) (turnedTo c Phase.Ended)
   -- "A tick adds Y, to at most X. .. A tick with the mark set clears it"
   ticks :
-      {m n : ℕ} → ServesThree c → Refilled (c .rights) (c .meters .calling .credit) m → Refilled (c .rights) (c .meters .called .credit) n →
+      {m n : ℕ} → ServesThree c → TickAdds (c .rights) (c .meters .calling .credit) m → TickAdds (c .rights) (c .meters .called .credit) n →
       Becomes c l Event.Tick
       (altered c (c .phase) (c .standings) (c .asking)
       (record {
@@ -176,9 +176,9 @@ pub data Becomes (c : Call) (l : List ℕ) : Event → Call → Type 0 where
   rests : (ServesThree c → ⊥) → Becomes c l Event.Tick c
 
 -- The next record: what the event makes of this one, and this one where 25, 12, 11 or 24 keeps it from being acted on.
-pub data Next (c : Call) (l : List ℕ) (e : Event) : Call → Type 0 where
-  acts : {d : Call} → Hears c e → Becomes c l e d → Next c l e d
-  bars : (Hears c e → ⊥) → Next c l e c
+pub data NextRecord (c : Call) (l : List ℕ) (e : Event) : Call → Type 0 where
+  acts : {d : Call} → Hears c e → Becomes c l e d → NextRecord c l e d
+  bars : (Hears c e → ⊥) → NextRecord c l e c
 
 -- P holds of a record exactly if it is this one
 abbrev pub Left : (Call → Type 0) → Call → Type 0
@@ -186,13 +186,13 @@ Left P c = (d : Call) → (c ≡ d → P d) × (P d → c ≡ d)
 
 -- BECOMES. For every record, sound or not, every event and every element: the next record.
 abbrev pub BecomesExactly : Core → Type 0
-BecomesExactly f = (c : Call) (e : Event) (l : List ℕ) → Left (Next c l e) (f c e l .call)
+BecomesExactly f = (c : Call) (e : Event) (l : List ℕ) → Left (NextRecord c l e) (f c e l .call)
 
 -- HISTORY. After every list of events from a fresh record the record is the one that the events and their elements
 -- alone make: phase, reference, rights, the standing of each service, whose request is open, credit, mark and count.
-pub data Ran : Call → List Offered → Call → Type 0 where
-  stays : {c : Call} → Ran c [] c
-  goes : {o : Offered} {os : List Offered} {c d r : Call} → Next c (o .element) (o .event) d → Ran d os r → Ran c (o ∷ os) r
+pub data Leads : Call → List Offered → Call → Type 0 where
+  stays : {c : Call} → Leads c [] c
+  goes : {o : Offered} {os : List Offered} {c d r : Call} → NextRecord c (o .element) (o .event) d → Leads d os r → Leads c (o ∷ os) r
 
 abbrev pub History : Core → Type 0
-History f = (os : List Offered) → Left (Ran freshCall os) (runOf f freshCall os)
+History f = (os : List Offered) → Left (Leads freshCall os) (runOf f freshCall os)

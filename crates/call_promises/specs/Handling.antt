@@ -43,7 +43,7 @@ pub data Goes : Event → Side → Kind → Bool → Type 0 where
   information : {from : Side} {more : Bool} → Goes (Event.Information from more) (other from) Kind.UserInformation more
   disconnect : {from : Side} {cause : ℕ} {answers : Answers} → Goes (Event.Disconnect from cause answers) (other from) Kind.Disconnect false
 
-pub record Whole (f : Core) (c : Call) (e : Event) (l : List ℕ) (side : Side) : Type 0 where
+pub record HandedWhole (f : Core) (c : Call) (e : Event) (l : List ℕ) (side : Side) : Type 0 where
   pub own : handedTo f c e l side ≡ l
   pub formed : WellFormed l
   pub limit : length l ≤ limitFor c e
@@ -54,14 +54,14 @@ pub record Whole (f : Core) (c : Call) (e : Event) (l : List ℕ) (side : Side) 
 
 -- UNALTERED. Whatever octets a user is handed at an event, they are the event's own element, whole.
 abbrev pub Unaltered : Core → Type 0
-Unaltered f = (c : Call) (e : Event) (l : List ℕ) (side : Side) → (handedTo f c e l side ≡ [] → ⊥) → Whole f c e l side
+Unaltered f = (c : Call) (e : Event) (l : List ℕ) (side : Side) → (handedTo f c e l side ≡ [] → ⊥) → HandedWhole f c e l side
 
 -- the event is taken, and there is no note on its element
 abbrev pub Unnoted : Reply → Type 0
 Unnoted r = (numberOf (r .answer) ≡ 0) × (noteNumberOf (r .note) ≡ 0)
 
 pub record Out (f : Core) (c : Call) (e : Event) (l : List ℕ) : Type 0 where
-  pub unnoted : (Bare e → ⊥) → (length l ≡ 0 → ⊥) → Unnoted (f c e l) → (to : Side) × Whole f c e l to
+  pub unnoted : (Bare e → ⊥) → (length l ≡ 0 → ⊥) → Unnoted (f c e l) → (to : Side) × HandedWhole f c e l to
   pub dropped : (Unnoted (f c e l) → ⊥) → (side : Side) → handedTo f c e l side ≡ []
 
 -- GOES OUT. "A noted element is dropped and the rest acted on": an event's element goes out, whole and to the user that

@@ -27,7 +27,7 @@ use Rattle.call_promises.specs.Numbers.{Allowed, WellFormed, ServesTwo, 
 use Rattle.call_promises.specs.Refusals.{sentTo, notReady, nothingSaid}
 
 -- the services that `spend` is told of are those that serve the side's message
-pub record Told (c : Call) (side : Side) (two three : Bool) : Type 0 where
+pub record ToldServices (c : Call) (side : Side) (two three : Bool) : Type 0 where
   pub service2 : two ≡ true ↔ ServesTwo c side
   pub service3 : three ≡ true ↔ ServesThree c
 
@@ -45,7 +45,7 @@ pub record SpendsAlike (m n : Meter) (burst : ℕ) (two three : Bool) (side : Si
 abbrev pub LentSpending : Type 0
 LentSpending =
     (c : Call) (side : Side) (more : Bool) (l : List ℕ) (two three : Bool) →
-    InRangeCall c → Allowed (Event.Information side more) (c .phase) → WellFormed l → length l ≤ c .rights .limit → Told c side two three →
+    InRangeCall c → Allowed (Event.Information side more) (c .phase) → WellFormed l → length l ≤ c .rights .limit → ToldServices c side two three →
     SpendsAlike (meterFrom c side) (meterFrom c (other side)) (c .rights .burst) two three side
     (stepOf c (Event.Information side more) l)
 
@@ -103,5 +103,5 @@ LentMet =
     InRangeCall lending
     × Allowed (Event.Information Side.Calling false) (lending .phase)
     × WellFormed (126 ∷ 2 ∷ 4 ∷ 65 ∷ [])
-    × Told lending Side.Calling true true
+    × ToldServices lending Side.Calling true true
     × LentSample (126 ∷ 2 ∷ 4 ∷ 65 ∷ [])

@@ -59,12 +59,12 @@ handedOf f c (o ∷ os) =
     ∷ handedOf f (f c (o .event) (o .element) .call) os
 
 -- "each element handed over in the first run is handed over, octet for octet, at the same event in the second"
-abbrev pub Kept : List ℕ → List ℕ → Type 0
-Kept g h = (g ≡ [] → ⊥) → h ≡ g
+abbrev pub HandedToo : List ℕ → List ℕ → Type 0
+HandedToo g h = (g ≡ [] → ⊥) → h ≡ g
 
 pub data NoFewer : List Handed → List Handed → Type 0 where
   end : NoFewer [] []
-  also : {g h : Handed} {gs hs : List Handed} → Kept (g .calling) (h .calling) → Kept (g .called) (h .called) → NoFewer gs hs → NoFewer (g ∷ gs) (h ∷ hs)
+  also : {g h : Handed} {gs hs : List Handed} → HandedToo (g .calling) (h .calling) → HandedToo (g .called) (h .called) → NoFewer gs hs → NoFewer (g ∷ gs) (h ∷ hs)
 
 -- "and while the first call is up the second is in the same phase": said of every run, it is said of each part of a run
 -- from its start

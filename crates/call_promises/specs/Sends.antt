@@ -124,9 +124,9 @@ pub record FailsAt (c : Call) (e : Event) (k : Service) (g : Given) : Type 0 whe
   pub refused : g ≡ Given.Accepted → ⊥
 
 -- "DISCONNECT to the caller with rejectedByUser for each due service not accepted"
-pub data Turned (c : Call) (e : Event) (k : Service) : Said → Type 0 where
-  turned : {g : Given} → Counts c e k g → (g ≡ Given.Accepted → ⊥) → Turned c e k Said.ByUser
-  unturned : ((g : Given) → Counts c e k g → g ≡ Given.Accepted) → Turned c e k Said.Nothing
+pub data TurnedDown (c : Call) (e : Event) (k : Service) : Said → Type 0 where
+  turned : {g : Given} → Counts c e k g → (g ≡ Given.Accepted → ⊥) → TurnedDown c e k Said.ByUser
+  unturned : ((g : Given) → Counts c e k g → g ≡ Given.Accepted) → TurnedDown c e k Said.Nothing
 
 -- "The caller's cause is 29 for an explicit rejection, 69 for none, by the lowest failed required service."
 pub data Below : Service → Service → Type 0 where
@@ -134,13 +134,13 @@ pub data Below : Service → Service → Type 0 where
   one-three : Below Service.One Service.Three
   two-three : Below Service.Two Service.Three
 
-pub record Lowest (c : Call) (e : Event) (k : Service) (g : Given) : Type 0 where
+pub record LowestFailed (c : Call) (e : Event) (k : Service) (g : Given) : Type 0 where
   pub fails : FailsAt c e k g
   pub lower : (j : Service) (h : Given) → Below j k → FailsAt c e j h → ⊥
 
 pub data Blames (c : Call) (e : Event) : ℕ → Type 0 where
-  rejected : {k : Service} → Lowest c e k Given.Rejected → Blames c e 29
-  unanswered : {k : Service} → Lowest c e k Given.Silent → Blames c e 69
+  rejected : {k : Service} → LowestFailed c e k Given.Rejected → Blames c e 29
+  unanswered : {k : Service} → LowestFailed c e k Given.Silent → Blames c e 69
 
 -- ALERTING and CONNECT. "Required and not accepted: DISCONNECT to the caller .., and to the called user with cause 31 ..
 -- Otherwise the message goes on with these answers, and its element if service 1 is in force."
@@ -150,7 +150,7 @@ pub data Answering (c : Call) (l : List ℕ) (e : Event) (kind : Kind) : Side �
       Settles c e Service.One s one → Settles c e Service.Two t two → Settles c e Service.Three u three → Flags b (Rides c e l) →
       Answering c l e kind Side.Calling (telling kind Cause.Absent one two three b)
   clears :
-      {n : ℕ} {one two three : Said} → Blames c e n → Turned c e Service.One one → Turned c e Service.Two two → Turned c e Service.Three three →
+      {n : ℕ} {one two three : Said} → Blames c e n → TurnedDown c e Service.One one → TurnedDown c e Service.Two two → TurnedDown c e Service.Three three →
       Answering c l e kind Side.Calling (telling Kind.Disconnect (Cause.Value n) one two three false)
   clears-too : {k : Service} {g : Given} → FailsAt c e k g → Answering c l e kind Side.Called (curt Kind.Disconnect (Cause.Value 31))
 
@@ -262,10 +262,10 @@ pub data Sends (c : Call) (l : List ℕ) : Event → Side → Message → Type 0
   ready : {side : Side} → ServesThree c → meterFrom c side .mark ≡ true → Sends c l Event.Tick side (congested Level.Ready)
 
 -- P holds of a message exactly if it is what is sent: of none where nothing is
-abbrev pub Told : (Message → Type 0) → Sent → Type 0
-Told P s = (m : Message) → (s ≡ Sent.Present m → P m) × (P m → s ≡ Sent.Present m)
+abbrev pub IsWhatIsSent : (Message → Type 0) → Sent → Type 0
+IsWhatIsSent P s = (m : Message) → (s ≡ Sent.Present m → P m) × (P m → s ≡ Sent.Present m)
 
 -- SENDS. For every record, event, element and side: what that side is sent, and whether it is sent anything.
 abbrev pub SendsExactly : Core → Type 0
 SendsExactly f =
-    (c : Call) (e : Event) (l : List ℕ) (side : Side) → Told (λ m. Hears c e × Sends c l e side m) (sentTo (f c e l) side)
+    (c : Call) (e : Event) (l : List ℕ) (side : Side) → IsWhatIsSent (λ m. Hears c e × Sends c l e side m) (sentTo (f c e l) side)

@@ -19,7 +19,7 @@ use Rattle.event.specs.declared.Event.{Event}
 use Rattle.call.specs.Step.{stepOf}
 use Rattle.call_promises.specs.Numbers.{Core, answerRows}
 use Rattle.call_promises.specs.Notes.{noteRows}
-use Rattle.call_promises.specs.Sends.{Told}
+use Rattle.call_promises.specs.Sends.{IsWhatIsSent}
 use Rattle.call_promises.specs.Becomes.{Left}
 use Rattle.demands.specs.Demands.{Demands, Decided}
 use Rattle.demands.proofs.Meets.{meets}
@@ -72,7 +72,7 @@ same-number rows m n p q = p n .1 (q n .0 refl)
 absent : {m : Message} → Sent.Absent ≡ Sent.Present m → ⊥
 absent {m} e = let z : _≡_ {A = ℕ} 0 1 = cc in omega arith
 
-same-sent : (P : Message → Type 0) (s t : Sent) → Told P s → Told P t → s ≡ t
+same-sent : (P : Message → Type 0) (s t : Sent) → IsWhatIsSent P s → IsWhatIsSent P t → s ≡ t
 same-sent P Sent.Absent Sent.Absent p q = refl
 same-sent P Sent.Absent (Sent.Present m) p q = absurd (absent (p m .1 (q m .0 refl)))
 same-sent P (Sent.Present m) t p q = sym (q m .1 (p m .0 refl))

@@ -33,7 +33,7 @@ use Rattle.table_promises.specs.Replies.{outOfRange, alreadyHeld, noPlace, Tabl
 use Rattle.table_promises.proofs.Table.{table, refused, fourteen, no-setup}
 use Rattle.table_promises.proofs.Replies.{told, replies}
 use Rattle.demands.specs.Demand1.{noPlace as full, outOfRange as range}
-use Rattle.demands.specs.Demand1.{Listed, taken, outOfPhase, noEvent, noService, spent, notOpen, notGranted, badElement, askedRequired, held, noCall, unsound, outTo, OneMark, OneMessage, Ends, Demand1}
+use Rattle.demands.specs.Demand1.{Listed, taken, outOfPhase, noEvent, noService, spent, notOpen, notGranted, badElement, askedRequired, held, noCall, unsound, outTo, OneMark, OneMessage, EventEnds, Demand1}
 
 -- ---- reading
 
@@ -172,7 +172,7 @@ module _ (t : List Call) (n : ℕ) (e : Event) (l : List ℕ) where
       said (λ side r. record { back = own-sent side (x .reply) ∙ r .back; on = own-sent (elsewhere side) (x .reply) ∙ r .on })
       (refusal x (sixteen-not-zero h) .sixteen (sym (x .reply .number) ∙ h))
 
-  ends : Ends t n e l
+  ends : EventEnds t n e l
   ends =
       record {
         number = listed (o .verdict);

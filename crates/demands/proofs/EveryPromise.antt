@@ -36,10 +36,10 @@ use Rattle.trace_promises.proofs.WholeRun.{goes-on as trace-goes-on}
 use Rattle.trace_promises.proofs.WholeRun.{bounded as trace-bounded}
 use Rattle.trace_promises.proofs.WholeRun.{whole-run as trace-whole-run}
 use Rattle.trace_promises.proofs.WholeRun.{always as trace-always}
-use Rattle.call_cases.proofs.Edges.{instances}
-use Rattle.call_cases.proofs.Edges.{reached}
-use Rattle.call_cases.proofs.Edges.{broken}
-use Rattle.call_cases.proofs.Edges.{example}
+use Rattle.call_cases.proofs.Instances.{instances}
+use Rattle.call_cases.proofs.Instances.{reached}
+use Rattle.call_cases.proofs.Instances.{broken}
+use Rattle.call_cases.proofs.Instances.{example}
 use Rattle.call_cases.proofs.MoreInstances.{more-instances}
 use Rattle.call_cases.proofs.MoreInstances.{none-left-out}
 use Rattle.call_cases.proofs.MoreInstances.{credit-shown}

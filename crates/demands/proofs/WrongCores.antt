@@ -45,7 +45,7 @@ use Rattle.call_promises.specs.Numbers.{Core}
 use Rattle.call_cases.specs.ShutOut.{refuses, fixed, mute, nods}
 use Rattle.call_cases.proofs.ShutOut.{shut-out}
 use Rattle.demands.specs.Demands.{Demands}
-use Rattle.demands.specs.WrongCores.{but, opensBoth, keepsMarks, keepsOpen, creditsOne, never29, mumbles, returns, forgetsThree, leavesElement, WrongCores}
+use Rattle.demands.specs.WrongCores.{but, opensBoth, keepsMarks, keepsOpen, creditsOne, never29, blamesCalled, leavesAsking, mumbles, returns, forgetsThree, leavesElement, WrongCores}
 use Rattle.demands.proofs.Decided.{decided}
 
 -- a call with every right, in some phase, with services and marks as they may be
@@ -127,6 +127,23 @@ theirs g t = but g (t .call) (t .event) (t .element)
 abbrev asked : Trial
 asked = at Phase.Active Standing.Unasked Standing.Unasked false (Event.Facility Side.Calling What.Preferred) []
 
+-- the called side accepts what the calling side asks for
+abbrev agreed : Trial
+agreed =
+    record {
+      call =
+          record {
+            reference = 5;
+            rights = every;
+            phase = Phase.Active;
+            standings = record { one = Standing.Unasked; two = Standing.Unasked; three = Standing.Unasked };
+            asking = record { calling = true; called = false };
+            meters = record { calling = meter false; called = meter false };
+          };
+      event = Event.Facility Side.Called What.Accept;
+      element = [];
+    }
+
 abbrev ticked : Trial
 ticked = at Phase.Active Standing.Unasked Standing.InForce true Event.Tick []
 
@@ -151,10 +168,12 @@ cleared = at Phase.Active Standing.InForce Standing.Unasked false (Event.Disconn
 -- what the replies of our core and of a wrong one show there
 record Facts : Type 0 where
   asks : (ours asked .call .asking .called ≡ false) × (theirs opensBoth asked .call .asking .called ≡ true)
+  agrees : (ours agreed .call .asking .calling ≡ false) × (theirs leavesAsking agreed .call .asking .calling ≡ true)
   ticks : (ours ticked .call .meters .calling .mark ≡ false) × (theirs keepsMarks ticked .call .meters .calling .mark ≡ true)
   closes : (isClosed (ours unanswered .call .standings .one) ≡ true) × (isClosed (theirs keepsOpen unanswered .call .standings .one) ≡ false)
   credits : (ours accepted .call .meters .called .credit ≡ 2) × (theirs creditsOne accepted .call .meters .called .credit ≡ 0)
   blames : (causeIn (ours rejected .calling) ≡ 29) × (causeIn (theirs never29 rejected .calling) ≡ 69)
+  clears : (causeIn (ours rejected .called) ≡ 31) × (causeIn (theirs blamesCalled rejected .called) ≡ 69)
   warns : (causeIn (ours unpaid .calling) ≡ 43) × (causeIn (theirs mumbles unpaid .calling) ≡ 128)
   releases : (isSent (ours released .called) ≡ true) × (isSent (theirs returns released .called) ≡ false)
   passes : (isPreferred (threeIn (ours asked .called)) ≡ true) × (isPreferred (threeIn (theirs forgetsThree asked .called)) ≡ false)
@@ -165,10 +184,12 @@ unfolding emptyOf meterFitsOf grantedOf countedOf paidOf markedOf underThreeOf p
 facts =
     record {
       asks = (refl, refl);
+      agrees = (refl, refl);
       ticks = (refl, refl);
       closes = (refl, refl);
       credits = (refl, refl);
       blames = (refl, refl);
+      clears = (refl, refl);
       warns = (refl, refl);
       releases = (refl, refl);
       passes = (refl, refl);
@@ -193,10 +214,12 @@ wrong-cores =
       muting = λ f d. shut-out .muting f (decided (mute f) d);
       nodding = λ f d. shut-out .nodding f (decided (nods f) d);
       openingBoth = differs opensBoth asked (λ r. r .call .asking .called) (facts .asks .0) (facts .asks .1);
+      leavingOpen = differs leavesAsking agreed (λ r. r .call .asking .calling) (facts .agrees .0) (facts .agrees .1);
       keepingMarks = differs keepsMarks ticked (λ r. r .call .meters .calling .mark) (facts .ticks .0) (facts .ticks .1);
       keepingOpen = lacks keepsOpen unanswered (λ r. isClosed (r .call .standings .one)) (facts .closes .0) (facts .closes .1);
       creditingOne = counts creditsOne accepted (λ r. r .call .meters .called .credit) 2 0 (facts .credits .0) (facts .credits .1) (omega arith);
       neverRejecting = counts never29 rejected (λ r. causeIn (r .calling)) 29 69 (facts .blames .0) (facts .blames .1) (omega arith);
+      blaming = counts blamesCalled rejected (λ r. causeIn (r .called)) 31 69 (facts .clears .0) (facts .clears .1) (omega arith);
       mumbling = counts mumbles unpaid (λ r. causeIn (r .calling)) 43 128 (facts .warns .0) (facts .warns .1) (omega arith);
       returning = lacks returns released (λ r. isSent (r .called)) (facts .releases .0) (facts .releases .1);
       forgetting = lacks forgetsThree asked (λ r. isPreferred (threeIn (r .called))) (facts .passes .0) (facts .passes .1);

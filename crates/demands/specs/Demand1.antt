@@ -52,7 +52,7 @@ pub record OneMessage (o : Outcome) (side : Side) (s : Sent) : Type 0 where
   pub back : outTo o side ≡ s
   pub on : outTo o (other side) ≡ Sent.Absent
 
-pub record Ends (t : List Call) (n : ℕ) (e : Event) (l : List ℕ) : Type 0 where
+pub record EventEnds (t : List Call) (n : ℕ) (e : Event) (l : List ℕ) : Type 0 where
   pub number : Listed (numberAt t n e l)
   pub kept : (numberAt t n e l ≡ 0 → ⊥) → (numberAt t n e l ≡ 14 → ⊥) → stepTable t n e l ≡ t
   pub mark : numberAt t n e l ≡ 14 → OneMark t (stepTable t n e l) n e
@@ -66,4 +66,4 @@ pub record Ends (t : List Call) (n : ℕ) (e : Event) (l : List ℕ) : Type 0 wh
 
 pub record Demand1 : Type 0 where
   pub octets : (m : List ℕ) → readNumber (readOf m) ≤ 5
-  pub events : (t : List Call) (n : ℕ) (e : Event) (l : List ℕ) → Ends t n e l
+  pub events : (t : List Call) (n : ℕ) (e : Event) (l : List ℕ) → EventEnds t n e l

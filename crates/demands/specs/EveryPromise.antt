@@ -19,7 +19,7 @@ use Rattle.wire_promises.specs.Marked.{Marked}
 use Rattle.call_promises.specs.LentMeter.{LentSpending}
 use Rattle.call_promises.specs.LentMeter.{LentTicking}
 use Rattle.table_promises.specs.Table.{Table}
-use Rattle.table_promises.specs.Table.{Refused}
+use Rattle.table_promises.specs.Table.{RefusalsKeep}
 use Rattle.table_promises.specs.Table.{OnePlace}
 use Rattle.table_promises.specs.Table.{Named}
 use Rattle.table_promises.specs.Table.{Fourteen}
@@ -45,13 +45,13 @@ use Rattle.call_cases.specs.Instances.{Example}
 use Rattle.call_cases.specs.MoreInstances.{MoreInstances}
 use Rattle.call_cases.specs.MoreInstances.{NoneLeftOut}
 use Rattle.call_cases.specs.MoreInstances.{CreditShown}
-use Rattle.call_cases.specs.Handed.{Handed}
-use Rattle.call_cases.specs.Handed.{Held}
+use Rattle.call_cases.specs.Handed.{ElementsHanded}
+use Rattle.call_cases.specs.Handed.{ServicesHeld}
 use Rattle.call_promises.specs.LentMeter.{LentMet}
-use Rattle.table_promises.specs.Alone.{Met as TableMet}
+use Rattle.table_promises.specs.Alone.{AloneMet}
 use Rattle.table_promises.specs.Alone.{Needed}
 use Rattle.table_promises.specs.Halves.{StaleMet}
-use Rattle.trace_promises.specs.Instances.{Met as TraceMet}
+use Rattle.trace_promises.specs.Instances.{TraceMet}
 
 pub record EveryPromise : Type 1 where
   -- DEMAND 1, and that the demands on a call decide it
@@ -77,7 +77,7 @@ pub record EveryPromise : Type 1 where
   pub ticking : LentTicking
   -- THE LENT TABLE
   pub table : Table
-  pub refused : Refused
+  pub refused : RefusalsKeep
   pub onePlace : OnePlace
   pub named : Named
   pub fourteen : Fourteen
@@ -106,10 +106,10 @@ pub record EveryPromise : Type 1 where
   pub moreInstances : MoreInstances
   pub noneLeftOut : NoneLeftOut
   pub creditShown : CreditShown
-  pub handed : Handed
-  pub held : Held
+  pub handed : ElementsHanded
+  pub held : ServicesHeld
   pub lentMet : LentMet
-  pub aloneMet : TableMet
+  pub aloneMet : AloneMet
   pub needed : Needed
   pub staleMet : StaleMet
   pub traceMet : TraceMet

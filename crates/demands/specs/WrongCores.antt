@@ -48,6 +48,23 @@ opensBoth c r =
       meters = r .call .meters;
     })
 
+-- an acceptance leaves the request open that it accepts
+abbrev pub leavesAsking : Call → Reply → Reply
+leavesAsking c r =
+    withCall r
+    (record {
+      reference = r .call .reference;
+      rights = r .call .rights;
+      phase = r .call .phase;
+      standings = r .call .standings;
+      asking =
+          record {
+            calling = c .asking .calling || r .call .asking .calling;
+            called = c .asking .called || r .call .asking .called;
+          };
+      meters = r .call .meters;
+    })
+
 -- a mark that is set stays, so that every tick sends ready
 abbrev pub keepsMark : Meter → Meter → Meter
 keepsMark m n = record { credit = n .credit; mark = m .mark || n .mark; count = n .count }
@@ -131,6 +148,14 @@ sixtyNine (Cause.Value n) = Cause.Value (cond (eqb n 29) 69 n)
 abbrev pub never29 : Call → Reply → Reply
 never29 c r = withSent r (inEach (λ m. withCause m (sixtyNine (m .cause))) (r .calling)) (r .called)
 
+-- where a required service fails the called user hears 69, and not 31
+abbrev pub never31 : Cause → Cause
+never31 Cause.Absent = Cause.Absent
+never31 (Cause.Value n) = Cause.Value (cond (eqb n 31) 69 n)
+
+abbrev pub blamesCalled : Call → Reply → Reply
+blamesCalled c r = withSent r (r .calling) (inEach (λ m. withCause m (never31 (m .cause))) (r .called))
+
 -- congestion is told without its cause
 abbrev pub causeless : Message → Message
 causeless m = cond (eqb (kindOctet (m .kind)) 0x79) (withCause m Cause.Absent) m
@@ -181,10 +206,12 @@ pub record WrongCores : Type 0 where
   pub muting : (f : Core) → Demands (mute f) → ⊥
   pub nodding : (f : Core) → Demands (nods f) → ⊥
   pub openingBoth : Demands (but opensBoth) → ⊥
+  pub leavingOpen : Demands (but leavesAsking) → ⊥
   pub keepingMarks : Demands (but keepsMarks) → ⊥
   pub keepingOpen : Demands (but keepsOpen) → ⊥
   pub creditingOne : Demands (but creditsOne) → ⊥
   pub neverRejecting : Demands (but never29) → ⊥
+  pub blaming : Demands (but blamesCalled) → ⊥
   pub mumbling : Demands (but mumbles) → ⊥
   pub returning : Demands (but returns) → ⊥
   pub forgetting : Demands (but forgetsThree) → ⊥

@@ -24,7 +24,7 @@ use Rattle.message_types.specs.Kind.{kindOf}
 use Rattle.message.specs.Reading.{headedOf, readOf}
 use Rattle.octet_promises.specs.Ours.{Ends, alone, lengthy, Locking, NonLocking, Looks, here, passed, shifted, onward, start, Ours, bodyAt, SaysCause, SaysComponent, SaysPlace, SaysSingle, Next, Silent, First, first, none, Three, silent}
 use Rattle.octet_promises.specs.Ours as ours
-use Rattle.octet_promises.specs.ReadingDemands.{HasReference, HasFlag, set, clear, HasHeader, Gives, DemandsOfReading, BehindLock, BehindShift, Met, OurReading}
+use Rattle.octet_promises.specs.ReadingDemands.{HasReference, HasFlag, set, clear, HasHeader, Gives, DemandsOfReading, BehindLock, BehindShift, ReadingMet, OurReading}
 use Rattle.octet_promises.specs.ReadingDemands as demand
 use Rattle.octet_promises.proofs.Walk.{ends-one, ends-after, looks-in, not-shifting, locked}
 use Rattle.octet_promises.proofs.Decided.{meets, gives-one, each-one, decided}
@@ -259,7 +259,7 @@ behind-shift g d m n p q r s o l same x y rest e f =
     one-reading g d m n r s (header-front m n p o same) to (over-shift n m p (t .0) (sym same) (rw (t .1 .octet) at l) q y x (sym rest)) e f
 
 -- the premises are met
-met : Met
+met : ReadingMet
 unfolding readOf headedOf kindOf elements then takenFrom readingOf counted firstPlace
 met =
     record {

@@ -76,7 +76,7 @@ BehindShift g =
 abbrev pub behindOf : ℕ → ℕ → List ℕ
 behindOf shift x = 8 ∷ 1 ∷ 5 ∷ 0x45 ∷ shift ∷ x ∷ 1 ∷ 0x84 ∷ 0x7E ∷ 1 ∷ 4 ∷ []
 
-pub record Met : Type 0 where
+pub record ReadingMet : Type 0 where
   pub counts : (shift x : ℕ) → Ours (behindOf shift x) 4
   pub ends : (shift x : ℕ) → x < 0x80 → Ends (behindOf shift x) 5 8
   pub lock : (placeIn (readOf (behindOf 0x90 0x08)) ≡ Place.Absent) × (readNumber (readOf (behindOf 0x90 0x08)) ≡ 0)
@@ -91,4 +91,4 @@ pub record OurReading : Type 0 where
   pub one : (m : List ℕ) → EachOne m
   pub lock : (g : List ℕ → Read) → DemandsOfReading g → BehindLock g
   pub shift : (g : List ℕ → Read) → DemandsOfReading g → BehindShift g
-  pub met : Met
+  pub met : ReadingMet

@@ -22,7 +22,7 @@ use Rattle.table.specs.Verdict.{verdictNumber}
 use Rattle.table.specs.Settle.{subjectOf, heardOutcomeOf, tableRefusalOf, settledOf}
 use Rattle.table.specs.Step.{outcomeAt, tableAt, stepOutcome, stepTable}
 use Rattle.table_promises.specs.Table.{heldCall}
-use Rattle.table_promises.specs.Alone.{Offered, Told, tableRunOf, ownOf, eventsOf, fullOf, outcomesOf, Alone}
+use Rattle.table_promises.specs.Alone.{Addressed, Response, tableRunOf, ownOf, eventsOf, fullOf, outcomesOf, Alone}
 use Rattle.logic.proofs.Decide.{never}
 use Rattle.table_promises.proofs.Counted.{found-call}
 use Rattle.table_promises.proofs.AloneKept.{opens-in}
@@ -124,19 +124,19 @@ module _ (t : List Call) (m : ℕ) (e : Event) (l : List ℕ) (s : tableSound t 
   step-agrees b g = agrees b (chosenOf t m e) (chosen t m e s) g
 
 -- ---- a run
-abbrev toldAt : List Call → Offered → Told
+abbrev toldAt : List Call → Addressed → Response
 toldAt t o = record { offered = o; outcome = stepOutcome t (o .reference) (o .event) (o .element) }
 
-abbrev after : List Call → Offered → List Call
+abbrev after : List Call → Addressed → List Call
 after t o = stepTable t (o .reference) (o .event) (o .element)
 
 -- the answer u is that of the lone step from c, which leaves d
-abbrev LoneStep : ℕ → Call → Call → Told → Bool → Type 0
+abbrev LoneStep : ℕ → Call → Call → Response → Bool → Type 0
 LoneStep n c d u b =
     (u .outcome ≡ lone-outcome c (u .offered .event) (u .offered .element) (lone-at n c (u .offered .event) b))
     × (d ≡ lone-next n c (u .offered .event) (u .offered .element) (lone-at n c (u .offered .event) b))
 
-abbrev Lone : ℕ → Call → List Told → Type 0
+abbrev Lone : ℕ → Call → List Response → Type 0
 Lone n c us = outcomesOf us ≡ lone-run n c (eventsOf us) (fullOf us)
 
 -- the first flag is that of a SETUP, and the others are left
@@ -149,7 +149,7 @@ rest-full true f fs = refl
 rest-full false f fs = refl
 
 -- an event of n goes before a lone run of the rest
-lone-more : (n : ℕ) (c d : Call) (u : Told) (us : List Told) →
+lone-more : (n : ℕ) (c d : Call) (u : Response) (us : List Response) →
     ((b : Bool) → Flag (u .offered .event) (u .outcome) b → LoneStep n c d u b) → Lone n d us → Lone n c (u ∷ us)
 lone-more n c d u us k r =
     let o : Bool = opensOf (u .offered .event) in
@@ -158,7 +158,7 @@ lone-more n c d u us k r =
     λ j. p .0 j ∷ (r ∙ (λ i. lone-run n (p .1 i) (eventsOf us) (rest-full o f (fullOf us) i))) j
 
 -- the step of an event of n is a lone step
-own-step : (n : ℕ) (o : Offered) (t : List Call) → tableSound t ≡ true → meantReferenceOf (o .reference) (o .event) ≡ n → (b : Bool) → Flag (o .event) (toldAt t o .outcome) b →
+own-step : (n : ℕ) (o : Addressed) (t : List Call) → tableSound t ≡ true → meantReferenceOf (o .reference) (o .event) ≡ n → (b : Bool) → Flag (o .event) (toldAt t o .outcome) b →
     LoneStep n (heldCall t n) (heldCall (after t o) n) (toldAt t o) b
 unfolding stepOutcome stepTable
 own-step n o t s e b g =
@@ -166,7 +166,7 @@ own-step n o t s e b g =
     (let p = step-agrees t (o .reference) (o .event) (o .element) s b g in (p .outcome, p .next))
 
 -- one event, of n or of another reference
-turn : (n : ℕ) (o : Offered) (os : List Offered) (t : List Call) (b : Bool) → eqb (meantReferenceOf (o .reference) (o .event)) n ≡ b → tableSound t ≡ true →
+turn : (n : ℕ) (o : Addressed) (os : List Addressed) (t : List Call) (b : Bool) → eqb (meantReferenceOf (o .reference) (o .event)) n ≡ b → tableSound t ≡ true →
     Lone n (heldCall (after t o) n) (ownOf n (tableRunOf (after t o) os)) →
     Lone n (heldCall t n) (cond b (toldAt t o ∷ ownOf n (tableRunOf (after t o) os)) (ownOf n (tableRunOf (after t o) os)))
 turn n o os t true e s r =
@@ -175,7 +175,7 @@ turn n o os t false e s r =
     subst (λ (c : Call). Lone n c (ownOf n (tableRunOf (after t o) os))) (step-other t (o .reference) (o .event) (o .element) s n (eqb-false _ n e)) r
 
 -- the answers of n in a run are those of the lone run from its record
-lone : (n : ℕ) (os : List Offered) (t : List Call) → tableSound t ≡ true → Lone n (heldCall t n) (ownOf n (tableRunOf t os))
+lone : (n : ℕ) (os : List Addressed) (t : List Call) → tableSound t ≡ true → Lone n (heldCall t n) (ownOf n (tableRunOf t os))
 lone n [] t s = refl
 lone n (o ∷ os) t s =
     turn n o os t (eqb (meantReferenceOf (o .reference) (o .event)) n) refl s (lone n os (after t o) (step-sound t (o .reference) (o .event) (o .element) s))

@@ -28,7 +28,7 @@ use Rattle.table.specs.Table.{tableSound}
 use Rattle.table.specs.Choice.{chooseOf, chosenOf}
 use Rattle.table.specs.Settle.{subjectOf, recordKeptOf, heardOutcomeOf, tableRefusalOf, settledOf}
 use Rattle.table.specs.Step.{stepOutcome, stepTable}
-use Rattle.table_promises.specs.Alone.{AllFresh, Met, Needed}
+use Rattle.table_promises.specs.Alone.{AllFresh, AloneMet, Needed}
 
 no-places : AllFresh []
 no-places = record { most = omega arith; fresh = λ i h. absurd (not-suc-le-zero h) }
@@ -45,7 +45,7 @@ one-place = record { most = omega arith; fresh = fresh-more [] (no-places .fresh
 two-places : AllFresh (freshCall ∷ freshCall ∷ [])
 two-places = record { most = omega arith; fresh = fresh-more (freshCall ∷ []) (one-place .fresh) }
 
-pub met : Met
+pub met : AloneMet
 unfolding emptyOf meterFitsOf passageOf wellFormedOf seenOf goesOutOf rightsFitOf referenceFitsOf remainsOf firstStandingOf standingsOf lacksOf failedOf settlesOf nobodyAsks noRights noServices emptyMeters freshCall fieldsFitOf soundOf inPhaseOf barOf refusedOf heardOf replyOf setupPhaseOf filledOf setupCarriesOf proceedsOf setupOf answeredCallOf goesOnOf clearsOf alertingFatesOf answeredOf alertingOf metersOf informationPassageOf carriedOf withElementOf informationOf endsOf releaseCompleteOf refillsOf runsOf passesTickOf tickOf tableSound chooseOf chosenOf subjectOf recordKeptOf heardOutcomeOf tableRefusalOf settledOf stepOutcome stepTable
 met = record { one = one-place; two = two-places; events = refl; full = refl; numbers = refl }
 

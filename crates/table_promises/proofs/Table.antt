@@ -29,7 +29,7 @@ use Rattle.table.specs.Choice.{wantedOf, meantReferenceOf, opensOf, setupRanged
 use Rattle.table.specs.Verdict.{verdictNumber}
 use Rattle.table.specs.Settle.{subjectOf, changesOf, recordKeptOf, heardOutcomeOf, tableRefusalOf, settledOf}
 use Rattle.table.specs.Step.{outcomeAt, tableAt, stepOutcome, stepTable}
-use Rattle.table_promises.specs.Table.{heldCall, SetsUp, setup, Other, tableRows, numberAt, Table, Refused, OneChanged, OnePlace, LiveAt, Lowest, Names, lowest, holding, Named, OneSpent, Fourteen}
+use Rattle.table_promises.specs.Table.{heldCall, SetsUp, setup, Other, tableRows, numberAt, Table, RefusalsKeep, OneChanged, OnePlace, LiveAt, Lowest, Names, lowest, holding, Named, OneSpent, Fourteen}
 use Rattle.table.specs.declared.choice.Spot.{Spot}
 use Rattle.table.specs.declared.choice.Choice.{Choice}
 use Rattle.table.specs.declared.verdict.Verdict.{Verdict}
@@ -161,7 +161,7 @@ refused-at : (t : List Call) (c : Choice) (e : Event) (l : List ℕ) → (verdic
 refused-at t (Choice.At i) e l h k = ap (set t i) (settled-keeps (getD t i freshCall) e l h k) ∙ put-back t i
 refused-at t (Choice.Refused v) e l h k = refl
 
-pub refused : Refused
+pub refused : RefusalsKeep
 unfolding stepOutcome stepTable
 refused t n e l h k = refused-at t (chosenOf t n e) e l h k
 

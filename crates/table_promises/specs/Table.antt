@@ -74,8 +74,8 @@ abbrev pub Table : Type 0
 Table = (t : List Call) (n : ℕ) (e : Event) (element : List ℕ) → Exactly (tableRows t n e element) (numberAt t n e element)
 
 -- REFUSED. "11 to 25 change no call, meter or table .., except: 14": every record is as it was.
-abbrev pub Refused : Type 0
-Refused =
+abbrev pub RefusalsKeep : Type 0
+RefusalsKeep =
     (t : List Call) (n : ℕ) (e : Event) (element : List ℕ) →
     (numberAt t n e element ≡ 0 → ⊥) → (numberAt t n e element ≡ 14 → ⊥) → stepTable t n e element ≡ t
 

@@ -16,7 +16,7 @@ use Rattle.trace.specs.declared.Fault.{Fault}
 use Rattle.trace.specs.declared.Record.{Record}
 use Rattle.trace.specs.Kind.{recordKindOf, sizeOf}
 use Rattle.trace.specs.Reading.{recordReferenceOf, fieldAtOf, placeOf, closesOf, rangedOf, rightsOf, requestsOf, answersOf, eventOf, countOf, entryOf, namedOf, recordOf, elementOf}
-use Rattle.trace_promises.specs.Records.{Field, InRange}
+use Rattle.trace_promises.specs.Records.{Field, FieldsInRange}
 use Rattle.trace.proofs.Sizes.{least}
 use Rattle.trace_promises.proofs.Ranged.{in-range}
 
@@ -173,7 +173,7 @@ size-within w = rw (w .entry) (w .within)
 field-small : (t : List ℕ) (p : ℕ) → Field t p → getD t p 0 ≤ 131
 field-small t p f = ⊎-elim (λ z. omega (arith, z)) (λ h. h .most) (f .element)
 
-inside : (k : RecordKind) (t : List ℕ) → sizeOf k ≤ length t → InRange k t → placeOf k + 1 + countOf (placeOf k) t ≤ length t
+inside : (k : RecordKind) (t : List ℕ) → sizeOf k ≤ length t → FieldsInRange k t → placeOf k + 1 + countOf (placeOf k) t ≤ length t
 unfolding countOf
 inside RecordKind.Setup t h r = let f = field-small t 12 (r .3) in omega arith
 inside RecordKind.Alerting t h r = let f = field-small t 6 (r .1) in omega arith

@@ -36,7 +36,7 @@ use Rattle.trace_run.specs.Front.{frontOf}
 use Rattle.trace_run.specs.Entry.{columnsOf}
 use Rattle.trace_run.specs.Run.{turnedAt, lineAt, runIn, traceRunOf}
 use Rattle.trace_promises.specs.WholeRun.{Octets, Run}
-use Rattle.trace_promises.specs.Instances.{onePart, otherPart, endLine, lines, strangeLine, Ran, Met}
+use Rattle.trace_promises.specs.Instances.{onePart, otherPart, endLine, lines, strangeLine, Ran, TraceMet}
 
 below : List ℕ → Bool
 below [] = true
@@ -88,7 +88,7 @@ empty-ran : Ran false [] []
 unfolding runIn traceRunOf
 empty-ran = record { left = _; run = Run.nothing [] (Run.ended 143 [] (omega arith) refl) }
 
-pub met : Met
+pub met : TraceMet
 unfolding below
 met =
     record {

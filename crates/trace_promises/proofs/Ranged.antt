@@ -13,7 +13,7 @@ use Rattle.trace.specs.declared.kind.RecordKind.{RecordKind}
 use Rattle.trace.specs.Kind.{sizeOf}
 use Rattle.trace.specs.Field.{blankOf, fieldFitsOf}
 use Rattle.trace.specs.Reading.{fieldAtOf, closesOf, rangedOf}
-use Rattle.trace_promises.specs.Records.{Zeros, Field, Three, InRange}
+use Rattle.trace_promises.specs.Records.{Zeros, Field, Three, FieldsInRange}
 use Rattle.logic.proofs.Tests.{both, if-so, if-not}
 
 -- zeros, one by one
@@ -134,7 +134,7 @@ closes : (t : List ℕ) (p : ℕ) → p + 135 ≤ length t → Three t p → Fie
 unfolding closesOf
 closes t p s h f = simp (le-leb _ _ (h .one), le-leb _ _ (h .two), le-leb _ _ (h .three), field-fits t (p + 3) (omega arith) f)
 
-pub in-range : (k : RecordKind) (t : List ℕ) → sizeOf k ≤ length t → rangedOf k t ≡ true → InRange k t
+pub in-range : (k : RecordKind) (t : List ℕ) → sizeOf k ≤ length t → rangedOf k t ≡ true → FieldsInRange k t
 in-range RecordKind.Setup t s h =
     let a = both _ (closesOf 9 t) h in
     let b = both (leb (getD t 4 0) 1) (leb (getD t 5 0) 1) (a .0) in
@@ -154,7 +154,7 @@ in-range RecordKind.Disconnect t s h =
 in-range RecordKind.ReleaseComplete t s h = leb-true _ _ h
 in-range RecordKind.Tick t s h = tt
 
-pub ranged : (k : RecordKind) (t : List ℕ) → sizeOf k ≤ length t → InRange k t → rangedOf k t ≡ true
+pub ranged : (k : RecordKind) (t : List ℕ) → sizeOf k ≤ length t → FieldsInRange k t → rangedOf k t ≡ true
 ranged RecordKind.Setup t s h = simp (le-leb _ _ (h .0), le-leb _ _ (h .1), closes t 9 (omega arith) (h .2) (h .3))
 ranged RecordKind.Alerting t s h = closes t 3 (omega arith) (h .0) (h .1)
 ranged RecordKind.Connect t s h = closes t 3 (omega arith) (h .0) (h .1)

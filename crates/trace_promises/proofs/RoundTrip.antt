@@ -22,7 +22,7 @@ use Rattle.trace.specs.Kind.{recordKindOf, sizeOf}
 use Rattle.trace.specs.Values.{flagOf, sideOf, requestOf, givenOf, whatOf}
 use Rattle.trace.specs.Reading.{recordReferenceOf, rightsOf, requestsOf, answersOf, eventOf, placeOf, countOf, entryOf, recordOf, elementOf}
 use Rattle.recorder.specs.Writing.{flagOctet, sideOctet, requestOctet, givenOctet, whatOctet, fieldOctets, headOctets, recordOctets, recordFitsOf}
-use Rattle.trace_promises.specs.Records.{Zeros, Held, Field, InRange}
+use Rattle.trace_promises.specs.Records.{Zeros, HoldsElement, Field, FieldsInRange}
 use Rattle.trace_promises.specs.RoundTrip.{Again}
 use Rattle.logic.proofs.Tests.{both}
 use Rattle.user_element.specs.Writable.{elementFitsOf, UserElement}
@@ -126,7 +126,7 @@ module _ (h u rest : List ℕ) (fit : elementFitsOf u ≡ true) where
         rw e at (after-element (i - (length h + 1 + length u)) (omega arith));
   }
 
-  held : UserElement u → Held text (length h)
+  held : UserElement u → HoldsElement text (length h)
   held w =
       let a = w .least in
       let one : length h + 1 ≡ length h + suc 0 = omega arith in
@@ -162,7 +162,7 @@ module _ (h u rest : List ℕ) (fit : elementFitsOf u ≡ true) where
       rw (length-append h (fieldOctets u ++ rest), length-append (fieldOctets u) rest, field-is u s) (omega arith)
 
 -- a record that is whole and in range
-whole : (k : RecordKind) (t : List ℕ) → recordKindOf (getD t 0 0) ≡ NamedKind.Known k → 3 ≤ length t → sizeOf k ≤ length t → InRange k t → recordOf t ≡ Record.Taken (entryOf k t)
+whole : (k : RecordKind) (t : List ℕ) → recordKindOf (getD t 0 0) ≡ NamedKind.Known k → 3 ≤ length t → sizeOf k ≤ length t → FieldsInRange k t → recordOf t ≡ Record.Taken (entryOf k t)
 unfolding recordOf
 whole k t e l s i = simp (ne-eqb (length t) 0 (λ z. omega arith), e) (sym (named-taken k t s (ranged k t s i)))
 
@@ -171,7 +171,7 @@ nothing-is [] h = refl
 nothing-is (x ∷ xs) h = absurd (omega arith)
 
 -- an event without an element field
-bare-back : (r : ℕ) (e : Event) (k : RecordKind) (u t : List ℕ) → recordKindOf (getD t 0 0) ≡ NamedKind.Known k → 3 ≤ length t → sizeOf k ≤ length t → InRange k t → recordReferenceOf t ≡ r → eventOf k t ≡ e → placeOf k ≡ 0 → eqb (length u) 0 ≡ true → Again r e u t
+bare-back : (r : ℕ) (e : Event) (k : RecordKind) (u t : List ℕ) → recordKindOf (getD t 0 0) ≡ NamedKind.Known k → 3 ≤ length t → sizeOf k ≤ length t → FieldsInRange k t → recordReferenceOf t ≡ r → eventOf k t ≡ e → placeOf k ≡ 0 → eqb (length u) 0 ≡ true → Again r e u t
 unfolding entryOf countOf elementOf
 bare-back r e k u t a l s i b d p z =
     record {
@@ -185,7 +185,7 @@ bare-back r e k u t a l s i b d p z =
     }
 
 -- an event with one
-fielded-back : (r : ℕ) (e : Event) (k : RecordKind) (p : ℕ) (h u rest : List ℕ) → (fit : elementFitsOf u ≡ true) → recordKindOf (getD (h ++ (fieldOctets u ++ rest)) 0 0) ≡ NamedKind.Known k → sizeOf k ≡ length h + 132 → InRange k (h ++ (fieldOctets u ++ rest)) → recordReferenceOf (h ++ (fieldOctets u ++ rest)) ≡ r → eventOf k (h ++ (fieldOctets u ++ rest)) ≡ e → placeOf k ≡ suc p → suc p ≡ length h → Again r e u ((h ++ fieldOctets u) ++ rest)
+fielded-back : (r : ℕ) (e : Event) (k : RecordKind) (p : ℕ) (h u rest : List ℕ) → (fit : elementFitsOf u ≡ true) → recordKindOf (getD (h ++ (fieldOctets u ++ rest)) 0 0) ≡ NamedKind.Known k → sizeOf k ≡ length h + 132 → FieldsInRange k (h ++ (fieldOctets u ++ rest)) → recordReferenceOf (h ++ (fieldOctets u ++ rest)) ≡ r → eventOf k (h ++ (fieldOctets u ++ rest)) ≡ e → placeOf k ≡ suc p → suc p ≡ length h → Again r e u ((h ++ fieldOctets u) ++ rest)
 unfolding entryOf
 fielded-back r e k p h u rest fit a s i b d q w =
     let t = h ++ (fieldOctets u ++ rest) in

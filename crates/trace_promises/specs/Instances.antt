@@ -51,7 +51,7 @@ pub record Ran (explained : Bool) (trace text : List ℕ) : Type 0 where
 
 -- MET. For both programs there is a run of that trace. So there is of a tick alone, and of no octets at all, which
 -- prints nothing but the first line.
-pub record Met : Type 0 where
+pub record TraceMet : Type 0 where
   pub octets : Octets (onePart ++ otherPart ++ [])
   pub replays : Ran false (onePart ++ otherPart ++ []) (lines false)
   pub explains : Ran true (onePart ++ otherPart ++ []) (lines true)

@@ -23,14 +23,14 @@ recordNumber (Record.Refused f) = traceFaultNumber f
 pub record Zeros (t : List ℕ) (p q : ℕ) : Type 0 where
   pub zero : (i : ℕ) → p ≤ i → i < q → getD t i 0 ≡ 0
 
-pub record Held (t : List ℕ) (p : ℕ) : Type 0 where
+pub record HoldsElement (t : List ℕ) (p : ℕ) : Type 0 where
   pub least : 2 ≤ getD t p 0
   pub most : getD t p 0 ≤ 131
   pub first : getD t (p + 1) 0 ≡ 126
   pub second : getD t (p + 2) 0 ≡ getD t p 0 - 2
 
 pub record Field (t : List ℕ) (p : ℕ) : Type 0 where
-  pub element : (getD t p 0 ≡ 0) ⊎ Held t p
+  pub element : (getD t p 0 ≡ 0) ⊎ HoldsElement t p
   pub after : Zeros t (p + 1 + getD t p 0) (p + 132)
 
 -- three octets from p on, each at most 2
@@ -41,30 +41,30 @@ pub record Three (t : List ℕ) (p : ℕ) : Type 0 where
 
 -- "33: late, leave or side over 1, request or answer over 2, what over 3, cause over 127, element field not of that
 -- form."
-abbrev pub InRange : RecordKind → List ℕ → Type 0
-InRange RecordKind.Setup t = (getD t 4 0 ≤ 1) × (getD t 5 0 ≤ 1) × Three t 9 × Field t 12
-InRange RecordKind.Alerting t = Three t 3 × Field t 6
-InRange RecordKind.Connect t = Three t 3 × Field t 6
-InRange RecordKind.Information t = (getD t 3 0 ≤ 1) × Field t 4
-InRange RecordKind.Facility t = (getD t 3 0 ≤ 1) × (getD t 4 0 ≤ 3)
-InRange RecordKind.Disconnect t = (getD t 3 0 ≤ 1) × (getD t 4 0 ≤ 127) × Three t 5 × Field t 8
-InRange RecordKind.ReleaseComplete t = getD t 3 0 ≤ 1
-InRange RecordKind.Tick t = Unit {0}
+abbrev pub FieldsInRange : RecordKind → List ℕ → Type 0
+FieldsInRange RecordKind.Setup t = (getD t 4 0 ≤ 1) × (getD t 5 0 ≤ 1) × Three t 9 × Field t 12
+FieldsInRange RecordKind.Alerting t = Three t 3 × Field t 6
+FieldsInRange RecordKind.Connect t = Three t 3 × Field t 6
+FieldsInRange RecordKind.Information t = (getD t 3 0 ≤ 1) × Field t 4
+FieldsInRange RecordKind.Facility t = (getD t 3 0 ≤ 1) × (getD t 4 0 ≤ 3)
+FieldsInRange RecordKind.Disconnect t = (getD t 3 0 ≤ 1) × (getD t 4 0 ≤ 127) × Three t 5 × Field t 8
+FieldsInRange RecordKind.ReleaseComplete t = getD t 3 0 ≤ 1
+FieldsInRange RecordKind.Tick t = Unit {0}
 
 abbrev pub Short : NamedKind → List ℕ → Type 0
 Short NamedKind.Unknown t = ⊥
 Short (NamedKind.Known k) t = length t < sizeOf k
 
-abbrev pub OutOfRange : NamedKind → List ℕ → Type 0
-OutOfRange NamedKind.Unknown t = ⊥
-OutOfRange (NamedKind.Known k) t = InRange k t → ⊥
+abbrev pub FieldsOutOfRange : NamedKind → List ℕ → Type 0
+FieldsOutOfRange NamedKind.Unknown t = ⊥
+FieldsOutOfRange (NamedKind.Known k) t = FieldsInRange k t → ⊥
 
 -- "31, 32, 33: unknown kind; record cut short; field out of range; in this order", where the trace does not end here
 abbrev pub recordRows : List ℕ → Rows
 recordRows t =
     row ((1 ≤ length t) × (recordKindOf (getD t 0 0) ≡ NamedKind.Unknown)) 31
     (row ((1 ≤ length t) × Short (recordKindOf (getD t 0 0)) t) 32
-    (row ((1 ≤ length t) × OutOfRange (recordKindOf (getD t 0 0)) t) 33 end))
+    (row ((1 ≤ length t) × FieldsOutOfRange (recordKindOf (getD t 0 0)) t) 33 end))
 
 -- for every octet string at the front of a trace exactly one of an event (or the end), 31, 32, 33
 abbrev pub Records : Type 0

@@ -21,7 +21,7 @@ use Rattle.services.specs.declared.Facilities.{Facilities}
 use Rattle.services.specs.declared.Said.{Said}
 use Rattle.sent.specs.declared.Level.{Level}
 use Rattle.sent.specs.declared.Message.{Message}
-use Rattle.wire_promises.specs.Sending.{singleFor, componentFor, Host, facilitiesFor, wireOf, Different, Alike, Apart}
+use Rattle.wire_promises.specs.Sending.{singleFor, componentFor, Host, facilitiesFor, wireOf, Different, SaysTheSame, Apart}
 use Rattle.wire_promises.proofs.Sending.{moreIn, Fits, sent-fits, laid-out}
 
 abbrev levelIn : Single → Level
@@ -122,7 +122,7 @@ module _ (h : Host) (d : Different h) (m m' : Message) (a b : ℕ) (f : Fits a m
   said-same : (id : ℕ) → saidUnder id (listed (facilitiesFor h (m .said))) ≡ saidUnder id (listed (facilitiesFor h (m' .said)))
   said-same id = ap (λ (w : LineMessage). saidUnder id (listed (w .facility))) e
 
-  wire-alike : Alike m m'
+  wire-alike : SaysTheSame m m'
   wire-alike =
       record {
         kind = ap (λ (w : LineMessage). w .header .kind) e;

@@ -15,7 +15,7 @@ use Rattle.message.specs.Reading.{readOf}
 use Rattle.call.specs.Sound.{freshCall}
 use Rattle.call.specs.Step.{stepOf}
 use Rattle.call_promises.specs.Sound.{Offered, runOf}
-use Rattle.call_cases.specs.Edges.{nothing, message, Outcome, outcomeOf, elementOf, setup, silent, says, ringing}
+use Rattle.call_cases.specs.Cases.{nothing, message, Outcome, outcomeOf, elementOf, setup, silent, says, ringing}
 
 -- octets, with the number that reading them gives; or a run from a fresh record, the event that follows it, and what it
 -- gives

@@ -15,7 +15,7 @@ use Rattle.event.specs.declared.Event.{Event}
 use Rattle.call.specs.Sound.{freshCall}
 use Rattle.call.specs.Step.{stepOf}
 use Rattle.call_promises.specs.Sound.{Offered, runOf}
-use Rattle.call_cases.specs.Edges.{elementOf, setup, silent, says}
+use Rattle.call_cases.specs.Cases.{elementOf, setup, silent, says}
 use Rattle.call_cases.specs.Instances.{bare, served}
 use Rattle.call_promises.specs.Refusals.{sentTo}
 use Rattle.wire_promises.specs.Sending.{Host, answerTo, leftIn}

@@ -118,7 +118,7 @@ pub record Posted (l : List ℕ) : Type 0 where
   pub message : Message
   pub sent : sentTo (stepOf call event l) side ≡ Sent.Present message
 
-pub record Alike (m m' : Message) : Type 0 where
+pub record SaysTheSame (m m' : Message) : Type 0 where
   pub kind : m .kind ≡ m' .kind
   pub cause : m .cause ≡ m' .cause
   pub level : m .level ≡ m' .level
@@ -134,4 +134,4 @@ abbrev pub Apart : Type 0
 Apart =
     (h : Host) → HostInRange h → Different h → (l l' : List ℕ) (p : Posted l) (q : Posted l') →
     octetsOf h (p .message) l ≡ octetsOf h (q .message) l' →
-    Alike (p .message) (q .message) × (handedIn (Sent.Present (p .message)) l ≡ handedIn (Sent.Present (q .message)) l')
+    SaysTheSame (p .message) (q .message) × (handedIn (Sent.Present (p .message)) l ≡ handedIn (Sent.Present (q .message)) l')

@@ -49,15 +49,15 @@ outcomeOf r =
     }
 
 -- a run from a fresh record, the event that follows it, and what this event gives
-pub record Case : Type 0 where
+pub record CallCase : Type 0 where
   pub before : List Offered
   pub event : Offered
   pub gives : Outcome
 
-abbrev pub AllHold : List Case → Type 0
-AllHold [] = Unit {0}
-AllHold (k ∷ ks) =
-    (outcomeOf (stepOf (runOf stepOf freshCall (k .before)) (k .event .event) (k .event .element)) ≡ k .gives) × AllHold ks
+abbrev pub AllCases : List CallCase → Type 0
+AllCases [] = Unit {0}
+AllCases (k ∷ ks) =
+    (outcomeOf (stepOf (runOf stepOf freshCall (k .before)) (k .event .event) (k .event .element)) ≡ k .gives) × AllCases ks
 
 -- an element of n octets
 abbrev pub elementOf : ℕ → List ℕ
