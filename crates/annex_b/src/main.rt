@@ -1,6 +1,6 @@
 // Runs components laid out by hand as 7.1 defines them, for each kind that Annex B shows, whole messages with them and
-// damaged ones, through the reader and the writer. It prints a line for each: a short name, what was found, and `ok`, or
-// `differs` where it is not what 7.1 says.
+// damaged ones, through the reader and the writer. It prints a line for each: a short name, what was found, and `ok`,
+// or `differs` where it is not what 7.1 says.
 mod annex_bodies;
 mod annex_case;
 mod annex_messages;

@@ -1,5 +1,5 @@
--- The parts of a step, each with the paper's condition for it: what lets an event through, what rides with a message, what
--- the answers make of a service, what a message meets in its meter, what FACILITY is answered.
+-- The parts of a step, each with the paper's condition for it: what lets an event through, what rides with a message,
+-- what the answers make of a service, what a message meets in its meter, what FACILITY is answered.
 use Prim.Native.Nat.{ℕ, _<_, _≤_}
 use mathlib.Core.List.{List}
 use mathlib.Core.Bool.{Bool, true, false, cond, _&&_, _||_, not}

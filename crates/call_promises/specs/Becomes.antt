@@ -1,5 +1,5 @@
--- What becomes of the record, exactly: every field of the next record after a single event, from any record. A constructor
--- for each sentence of the paper. Nothing here names a function by which the step makes a record.
+-- What becomes of the record, exactly: every field of the next record after a single event, from any record. A
+-- constructor for each sentence of the paper. Nothing here names a function by which the step makes a record.
 use Prim.Native.Nat.{ℕ, _+_, _-_, _<_, _≤_}
 use mathlib.Core.List.{List, [], _∷_}
 use mathlib.Core.Logic.{_⊎_}
@@ -95,8 +95,8 @@ newRecord n r p one two three =
           };
     }
 
--- ALERTING and CONNECT. "Required and not accepted: .. Clearing." Otherwise the next phase, each service as it settles, and
--- credit where service 3 is accepted.
+-- ALERTING and CONNECT. "Required and not accepted: .. Clearing." Otherwise the next phase, each service as it settles,
+-- and credit where service 3 is accepted.
 pub data Earns (c : Call) (e : Event) : Meters → Type 0 where
   earns : Counts c e Service.Three Given.Accepted → Earns c e (toppedBoth c)
   earns-not : (Counts c e Service.Three Given.Accepted → ⊥) → Earns c e (c .meters)

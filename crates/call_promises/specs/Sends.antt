@@ -110,8 +110,8 @@ pub record Counts (c : Call) (e : Event) (k : Service) (g : Given) : Type 0 wher
   pub due : Due (c .phase) e k g
   pub asked : Open (standingFor (c .standings) k)
 
--- How a service stands after ALERTING or CONNECT, and what the caller is told of it where the message goes on: "Accepted:
--- in force. Preferred and not accepted: closed, rejectedByUser to the caller."
+-- How a service stands after ALERTING or CONNECT, and what the caller is told of it where the message goes on:
+-- "Accepted: in force. Preferred and not accepted: closed, rejectedByUser to the caller."
 pub data Settles (c : Call) (e : Event) (k : Service) : Standing → Said → Type 0 where
   accepted : Counts c e k Given.Accepted → Settles c e k Standing.InForce Said.Accepted
   declined : {g : Given} → Counts c e k g → (g ≡ Given.Accepted → ⊥) → Settles c e k Standing.Closed Said.ByUser
@@ -142,8 +142,8 @@ pub data Blames (c : Call) (e : Event) : ℕ → Type 0 where
   rejected : {k : Service} → LowestFailed c e k Given.Rejected → Blames c e 29
   unanswered : {k : Service} → LowestFailed c e k Given.Silent → Blames c e 69
 
--- ALERTING and CONNECT. "Required and not accepted: DISCONNECT to the caller .., and to the called user with cause 31 ..
--- Otherwise the message goes on with these answers, and its element if service 1 is in force."
+-- ALERTING and CONNECT. "Required and not accepted: DISCONNECT to the caller .., and to the called user with cause 31
+-- .. Otherwise the message goes on with these answers, and its element if service 1 is in force."
 pub data Answering (c : Call) (l : List ℕ) (e : Event) (kind : Kind) : Side → Message → Type 0 where
   on :
       {s t u : Standing} {one two three : Said} {b : Bool} → ((k : Service) (g : Given) → FailsAt c e k g → ⊥) →
@@ -258,7 +258,8 @@ pub data Sends (c : Call) (l : List ℕ) : Event → Side → Message → Type 0
       Sends c l (Event.Disconnect side cause a) to (telling Kind.Disconnect (Cause.Value cause) one two three b)
   -- "Passed on bare"
   release : {side to : Side} → to ≡ other side → Sends c l (Event.ReleaseComplete side) to (curt Kind.ReleaseComplete Cause.Absent)
-  -- "A tick with the mark set clears it and sends ready, with cause 43 too"; "without service 3 in Active it does nothing"
+  -- "A tick with the mark set clears it and sends ready, with cause 43 too"; "without service 3 in Active it does
+  -- nothing"
   ready : {side : Side} → ServesThree c → meterFrom c side .mark ≡ true → Sends c l Event.Tick side (congested Level.Ready)
 
 -- P holds of a message exactly if it is what is sent: of none where nothing is

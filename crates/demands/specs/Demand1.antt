@@ -40,8 +40,8 @@ abbrev pub outTo : Outcome → Side → Sent
 outTo o Side.Calling = o .calling
 outTo o Side.Called = o .called
 
--- one live record of the reference n is as it was but for the mark of the side that sent USER INFORMATION, and all others
--- are as they were
+-- one live record of the reference n is as it was but for the mark of the side that sent USER INFORMATION, and all
+-- others are as they were
 pub record OneMark (t s : List Call) (n : ℕ) (e : Event) : Type 0 where
   pub place : ℕ
   pub live : LiveAt t place n

@@ -19,8 +19,9 @@ use Rattle.call_promises.specs.Sends.{SendsExactly}
 use Rattle.call_promises.specs.Becomes.{BecomesExactly, History}
 
 pub record Demands (f : Core) : Type 0 where
-  -- DEMAND 1. Every event, in every phase, ends with one of the numbers in the paper, in the paper's order, and with the
-  -- note on its element; a refusal changes nothing except the one congestion mark, and sends nothing but for 14 and 16
+  -- DEMAND 1. Every event, in every phase, ends with one of the numbers in the paper, in the paper's order, and with
+  -- the note on its element; a refusal changes nothing except the one congestion mark, and sends nothing but for 14 and
+  -- 16
   pub answers : Answers f
   pub notes : Notes f
   pub refusals : Refusals f

@@ -1,6 +1,6 @@
--- "Any two replies it allows are shown equal." A public contract has one of five forms, and of each form: two results of
--- one input that meet it are the same, and so is every octet and record that was lent. Which function has which form is
--- listed in docs/made/CONTRACTS.md.
+-- "Any two replies it allows are shown equal." A public contract has one of five forms, and of each form: two results
+-- of one input that meet it are the same, and so is every octet and record that was lent. Which function has which form
+-- is listed in docs/made/CONTRACTS.md.
 use Prim.Native.Nat.{ℕ}
 use mathlib.Core.List.{List}
 use mathlib.Core.Bool.{Bool}
