@@ -1,7 +1,8 @@
 -- Demand 1, from the promises on reading, on the table and on a call.
-use Prim.Native.Nat.{ℕ, _≤_}
+use Prim.Native.Nat.{ℕ, _<_, _≤_}
 use mathlib.Core.List.{List}
 use mathlib.Core.Logic.{_⊎_, inl, inr, ⊎-elim}
+use mathlib.Core.Bool.{Bool}
 use mathlib.Core.Path.{_≡_, refl, sym, _∙_, ap}
 use native.Mathlib.Omega.{arith}
 use lib.ListN.{getD, set}
@@ -27,13 +28,13 @@ use Rattle.call_promises.specs.Numbers.{other as elsewhere}
 use Rattle.call_promises.specs.Ranges.{ReferenceInRange, RightsInRange}
 use Rattle.call_promises.specs.Refusals.{sentTo, Unmoved, Marks, Drops, Rejects, Refusal, withMark, notReady, rejectedByNetwork}
 use Rattle.call_promises.proofs.Refusals.{refusals}
-use Rattle.table_promises.specs.Table.{Faulty, Held, Full, SetsUp, Other, numberAt, OneSpent}
+use Rattle.table_promises.specs.Table.{Faulty, twins, LiveAt, Names, holding, Held, Full, SetsUp, Other, numberAt, OneSpent}
 use Rattle.table_promises.specs.Table.{setup as at-setup}
 use Rattle.table_promises.specs.Replies.{outOfRange, alreadyHeld, noPlace, TableRefuses, faulty, setup, other, Silent, Gives, Own, stepsFrom}
-use Rattle.table_promises.proofs.Table.{table, refused, fourteen, no-setup}
+use Rattle.table_promises.proofs.Table.{table, refused, fourteen, no-setup, put-back}
 use Rattle.table_promises.proofs.Replies.{told, replies}
 use Rattle.demands.specs.Demand1.{noPlace as full, outOfRange as range}
-use Rattle.demands.specs.Demand1.{Listed, taken, outOfPhase, noEvent, noService, spent, notOpen, notGranted, badElement, askedRequired, held, noCall, unsound, outTo, OneMark, OneMessage, EventEnds, Demand1}
+use Rattle.demands.specs.Demand1.{Listed, taken, outOfPhase, noEvent, noService, spent, notOpen, notGranted, badElement, askedRequired, held, noCall, unsound, outTo, OneMessage, MarkSet, NothingDone, EventEnds, Demand1}
 
 -- ---- reading
 
@@ -93,13 +94,46 @@ unmoved-to : {c : Call} {r : Reply} (side : Side) → Unmoved c r → sentTo r s
 unmoved-to Side.Calling u = u .calling
 unmoved-to Side.Called u = u .called
 
--- what 14 leaves: the record as it was, or with its mark set
-left-by : (t s : List Call) (place : ℕ) (e : Event) (r : Reply) → s ≡ set t place (r .call) → Informs (λ side. Marks (getD t place freshCall) side r ⊎ Drops (getD t place freshCall) side r) e → (s ≡ set t place (getD t place freshCall)) ⊎ Informs (λ side. s ≡ set t place (withMark (getD t place freshCall) side)) e
-left-by t s place e r h (sends (inl m)) = inr (sends (h ∙ ap (set t place) (m .call)))
-left-by t s place e r h (sends (inr d)) = inl (h ∙ ap (set t place) (d .unmoved .call))
+-- a live record of a reference stands at one place
+live-of : {t : List Call} {n i : ℕ} {side : Side} {more : Bool} → Names t n i (Event.Information side more) → LiveAt t i n
+live-of (holding _ a) = a
+
+same : (t : List Call) (n i j : ℕ) → (Faulty t → ⊥) → LiveAt t i n → LiveAt t j n → i ≡ j
+same t n i j f a b =
+    let p : i < j → ⊥ = λ x. f (twins i j n x a b) in
+    let q : j < i → ⊥ = λ x. f (twins j i n x b a) in
+    omega arith
+
+-- 14's record and 14's messages are those of one reply
+abbrev Fourteen : List Call → List Call → ℕ → Outcome → Event → Type 0
+Fourteen t s n o e = Informs (λ side. MarkSet t s n o side ⊎ NothingDone t s o side) e
+
+joined : (t s : List Call) (n : ℕ) (l : List ℕ) (o : Outcome) (e : Event) (x : OneSpent t s n e l) (y : Own t s n e l o) → (Faulty t → ⊥) → Informs (λ side. Marks (getD t (x .place) freshCall) side (stepOf (getD t (x .place) freshCall) e l) ⊎ Drops (getD t (x .place) freshCall) side (stepOf (getD t (x .place) freshCall) e l)) e → Fourteen t s n o e
+joined t s n l o (Event.Information side more) x y f (sends (inl m)) =
+    sends
+    (inl
+    (record {
+      place = x .place;
+      live = x .live;
+      table = x .table ∙ ap (set t (x .place)) (m .call);
+      message = record { back = here side ∙ m .back; on = here (elsewhere side) ∙ m .on };
+    }))
+  where
+    here : (at : Side) → outTo o at ≡ sentTo (stepOf (getD t (x .place) freshCall) (Event.Information side more) l) at
+    here at = own-sent at (y .reply) ∙ ap (λ (i : ℕ). sentTo (stepOf (getD t i freshCall) (Event.Information side more) l) at) (same t n (y .place) (x .place) f (live-of (y .named)) (x .live))
+joined t s n l o (Event.Information side more) x y f (sends (inr d)) =
+    sends
+    (inr
+    (record {
+      table = x .table ∙ ap (set t (x .place)) (d .unmoved .call) ∙ put-back t (x .place);
+      message = record { back = here side ∙ unmoved-to side (d .unmoved); on = here (elsewhere side) ∙ unmoved-to (elsewhere side) (d .unmoved) };
+    }))
+  where
+    here : (at : Side) → outTo o at ≡ sentTo (stepOf (getD t (x .place) freshCall) (Event.Information side more) l) at
+    here at = own-sent at (y .reply) ∙ ap (λ (i : ℕ). sentTo (stepOf (getD t i freshCall) (Event.Information side more) l) at) (same t n (y .place) (x .place) f (live-of (y .named)) (x .live))
 
 -- a row of another number does not apply
-barred : {P Q : Type 0} {k : ℕ} → (16 ≡ k → ⊥) → (P × (16 ≡ k)) ⊎ ((P → ⊥) × Q) → (P → ⊥) × Q
+barred : {P Q : Type 0} {k m : ℕ} → (m ≡ k → ⊥) → (P × (m ≡ k)) ⊎ ((P → ⊥) × Q) → (P → ⊥) × Q
 barred n = ⊎-elim (λ x. absurd (n (x .1))) (λ x. x)
 
 refuted : (t : List Call) (n : ℕ) (e : Event) → (Faulty t → ⊥) → (SetsUp (λ reference rights. ReferenceInRange reference × RightsInRange rights → ⊥) e → ⊥) → (SetsUp (λ reference rights. Held t reference) e → ⊥) → (SetsUp (λ reference rights. Full t) e → ⊥) → (Other e × (Held t n → ⊥) → ⊥) → TableRefuses t n e → ⊥
@@ -112,16 +146,6 @@ refuted t n e a b c d g (other _ k x) = g (no-setup e k, x)
 module _ (t : List Call) (n : ℕ) (e : Event) (l : List ℕ) where
   abbrev o : Outcome
   o = stepOutcome t n e l
-
-  one-mark : numberAt t n e l ≡ 14 → OneMark t (stepTable t n e l) n e
-  one-mark h =
-      let x = fourteen t n e l h in
-      let c = getD t (x .place) freshCall in
-      record {
-        place = x .place;
-        live = x .live;
-        mark = left-by t (stepTable t n e l) (x .place) e (stepOf c e l) (x .table) (refusals c e l (fourteen-not-zero (x .answer)) .fourteen (x .answer));
-      }
 
   abbrev own : Own t (stepTable t n e l) n e l o → Reply
   own x = stepOf (stepsFrom (getD t (x .place) freshCall) e) e l
@@ -136,39 +160,28 @@ module _ (t : List Call) (n : ℕ) (e : Event) (l : List ℕ) where
       (λ x. own-sent side (x .reply) ∙ unmoved-to side (refusal x a .others (λ z. b (x .reply .number ∙ z)) (λ z. c (x .reply .number ∙ z))))
       (told t n e l)
 
-  silent-both : Silent o → (side : Side) → OneMessage o side Sent.Absent
-  silent-both s side = record { back = silent-to side s; on = silent-to (elsewhere side) s }
+  -- 14 and 16 are no numbers of the table's own
+  sound-at : (m : ℕ) → (m ≡ 25 → ⊥) → numberAt t n e l ≡ m → Faulty t → ⊥
+  sound-at m u h = barred u (table t n e l m .0 h) .0
 
-  warned : (x : Own t (stepTable t n e l) n e l o) (c : Call) (side : Side) → Marks c side (own x) ⊎ Drops c side (own x) → OneMessage o side notReady ⊎ OneMessage o side Sent.Absent
-  warned x c side (inl m) = inl (record { back = own-sent side (x .reply) ∙ m .back; on = own-sent (elsewhere side) (x .reply) ∙ m .on })
-  warned x c side (inr d) =
-      inr (record { back = own-sent side (x .reply) ∙ unmoved-to side (d .unmoved); on = own-sent (elsewhere side) (x .reply) ∙ unmoved-to (elsewhere side) (d .unmoved) })
-
-  -- 14 is a call's answer to USER INFORMATION
-  informs-at : numberAt t n e l ≡ 14 → Informs (λ side. Unit {0}) e
-  informs-at h =
-      let x = fourteen t n e l h in
-      informed (λ side m. tt) (refusals _ e l (fourteen-not-zero (x .answer)) .fourteen (x .answer))
-
-  warns : numberAt t n e l ≡ 14 → Informs (λ side. OneMessage o side notReady ⊎ OneMessage o side Sent.Absent) e
-  warns h =
-      ⊎-elim (λ s. informed (λ side _. inr (silent-both s side)) (informs-at h))
-      (λ x. informed (λ side m. warned x _ side m) (refusal x (fourteen-not-zero h) .fourteen (sym (x .reply .number) ∙ h))) (told t n e l)
-
-  -- 16 is no number of the table's own
-  heard-at : numberAt t n e l ≡ 16 → TableRefuses t n e → ⊥
-  heard-at h =
-      let f = table t n e l 16 .0 h in
-      let a = barred (omega arith) f in
-      let b = barred (omega arith) (a .1) in
-      let c = barred (omega arith) (b .1) in
-      let d = barred (omega arith) (c .1) in
-      let g = barred (omega arith) (d .1) in
+  heard-at : (m : ℕ) → 11 ≤ m → m < 21 → numberAt t n e l ≡ m → TableRefuses t n e → ⊥
+  heard-at m low high h =
+      let f = table t n e l m .0 h in
+      let a = barred (λ (k : m ≡ 25). omega arith) f in
+      let b = barred (λ (k : m ≡ 24). omega arith) (a .1) in
+      let c = barred (λ (k : m ≡ 22). omega arith) (b .1) in
+      let d = barred (λ (k : m ≡ 21). omega arith) (c .1) in
+      let g = barred (λ (k : m ≡ 23). omega arith) (d .1) in
       refuted t n e (a .0) (b .0) (c .0) (d .0) (g .0)
+
+  fourteen-at : numberAt t n e l ≡ 14 → Fourteen t (stepTable t n e l) n o e
+  fourteen-at h =
+      let x = fourteen t n e l h in
+      joined t (stepTable t n e l) n l o e x (replies t n e l .1 (heard-at 14 (omega arith) (omega arith) h)) (sound-at 14 (omega arith) h) (refusals _ e l (fourteen-not-zero (x .answer)) .fourteen (x .answer))
 
   rejects : numberAt t n e l ≡ 16 → Says (λ side what. OneMessage o side rejectedByNetwork) e
   rejects h =
-      let x = replies t n e l .1 (heard-at h) in
+      let x = replies t n e l .1 (heard-at 16 (omega arith) (omega arith) h) in
       said (λ side r. record { back = own-sent side (x .reply) ∙ r .back; on = own-sent (elsewhere side) (x .reply) ∙ r .on })
       (refusal x (sixteen-not-zero h) .sixteen (sym (x .reply .number) ∙ h))
 
@@ -177,10 +190,9 @@ module _ (t : List Call) (n : ℕ) (e : Event) (l : List ℕ) where
       record {
         number = listed (o .verdict);
         kept = refused t n e l;
-        mark = one-mark;
+        fourteen = fourteen-at;
         quiet = quiet;
-        warns = warns;
-        rejects = rejects;
+        sixteen = rejects;
       }
 
 pub demand-1 : Demand1

@@ -1,5 +1,7 @@
 -- DEMAND 1, as one statement: every octet string and every call event, in every phase, ends with one of the numbers in
 -- the paper; a refusal changes nothing except the one congestion mark, and sends nothing but for 14's and 16's message.
+-- That a number is one of the paper's follows from the types of the replies; which it is and when, `Reads` says of octet
+-- strings, `Table` and `Answers` of events.
 use Prim.Native.Nat.{ℕ, _≤_}
 use mathlib.Core.List.{List}
 use mathlib.Core.Logic.{_⊎_}
@@ -40,29 +42,33 @@ abbrev pub outTo : Outcome → Side → Sent
 outTo o Side.Calling = o .calling
 outTo o Side.Called = o .called
 
--- one live record of the reference n is as it was but for the mark of the side that sent USER INFORMATION, and all
--- others are as they were
-pub record OneMark (t s : List Call) (n : ℕ) (e : Event) : Type 0 where
-  pub place : ℕ
-  pub live : LiveAt t place n
-  pub mark : (s ≡ set t place (getD t place freshCall)) ⊎ Informs (λ side. s ≡ set t place (withMark (getD t place freshCall) side)) e
-
--- what a refused event is answered with: nothing, or one message to the side that it came from
+-- what a side is sent, and the other side nothing
 pub record OneMessage (o : Outcome) (side : Side) (s : Sent) : Type 0 where
   pub back : outTo o side ≡ s
   pub on : outTo o (other side) ≡ Sent.Absent
 
+-- 14 at USER INFORMATION: one live record of the reference n has the sender's mark set and is else as it was, as all other
+-- records are, and the sender is told not ready; or nothing is changed and nothing is sent
+pub record MarkSet (t s : List Call) (n : ℕ) (o : Outcome) (side : Side) : Type 0 where
+  pub place : ℕ
+  pub live : LiveAt t place n
+  pub table : s ≡ set t place (withMark (getD t place freshCall) side)
+  pub message : OneMessage o side notReady
+
+pub record NothingDone (t s : List Call) (o : Outcome) (side : Side) : Type 0 where
+  pub table : s ≡ t
+  pub message : OneMessage o side Sent.Absent
+
 pub record EventEnds (t : List Call) (n : ℕ) (e : Event) (l : List ℕ) : Type 0 where
   pub number : Listed (numberAt t n e l)
   pub kept : (numberAt t n e l ≡ 0 → ⊥) → (numberAt t n e l ≡ 14 → ⊥) → stepTable t n e l ≡ t
-  pub mark : numberAt t n e l ≡ 14 → OneMark t (stepTable t n e l) n e
+  pub fourteen :
+      numberAt t n e l ≡ 14 →
+      Informs (λ side. MarkSet t (stepTable t n e l) n (stepOutcome t n e l) side ⊎ NothingDone t (stepTable t n e l) (stepOutcome t n e l) side) e
   pub quiet :
       (numberAt t n e l ≡ 0 → ⊥) → (numberAt t n e l ≡ 14 → ⊥) → (numberAt t n e l ≡ 16 → ⊥) →
       (side : Side) → outTo (stepOutcome t n e l) side ≡ Sent.Absent
-  pub warns :
-      numberAt t n e l ≡ 14 →
-      Informs (λ side. OneMessage (stepOutcome t n e l) side notReady ⊎ OneMessage (stepOutcome t n e l) side Sent.Absent) e
-  pub rejects : numberAt t n e l ≡ 16 → Says (λ side what. OneMessage (stepOutcome t n e l) side rejectedByNetwork) e
+  pub sixteen : numberAt t n e l ≡ 16 → Says (λ side what. OneMessage (stepOutcome t n e l) side rejectedByNetwork) e
 
 pub record Demand1 : Type 0 where
   pub octets : (m : List ℕ) → readNumber (readOf m) ≤ 5

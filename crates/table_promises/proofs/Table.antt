@@ -128,7 +128,7 @@ pub table : Table
 table t n e l = exactly (tableRows t n e l) (numberAt t n e l) (table-first t n e l)
 
 -- ---- a refusal
-put-back : (l : List Call) (i : ℕ) → set l i (getD l i freshCall) ≡ l
+pub put-back : (l : List Call) (i : ℕ) → set l i (getD l i freshCall) ≡ l
 put-back [] i = refl
 put-back (c ∷ l) zero = refl
 put-back (c ∷ l) (suc i) = ap (λ (m : List Call). c ∷ m) (put-back l i)
