@@ -62,7 +62,7 @@ use Rattle.call_promises.specs.Numbers.{Core, Allowed, Has, ServesThree,
 use Rattle.call_promises.specs.Notes.{LacksRequired, Open}
 use Rattle.call_promises.specs.Handling.{Explicit, Implied}
 use Rattle.call_promises.specs.Sends.{Hears, Counts, FailsAt, Intact, CountPays, CreditPays, FirstDropped, Agreed, Accepting}
-use Rattle.call_promises.specs.Becomes.{altered, turnedTo, withMeter, askingFrom, topped, toppedBoth, Stands, unasked, preferred, required, implicit, lacking, Opens, ended, requested, newRecord, Earns, earns, earns-not, Answered, on, clears, Last, accepted, as-before, TickAdds, adds, tops, Becomes, setup, alerting, connect, counts, pays, marks, drops, asks, accepts, rejects, refuses, disconnect, release, ticks, rests, NextRecord, acts, bars, Left, BecomesExactly, Leads, stays, goes, History}
+use Rattle.call_promises.specs.Becomes.{altered, turnedTo, withMeter, askingFrom, topped, toppedBoth, Stands, unasked, preferred, required, implicit, lacking, Opens, ended, requested, newRecord, Earns, earns, earns-not, Answered, on, clears, Last, accepted, as-before, TickAdds, adds, tops, Becomes, setup, alerting, connect, counts, pays, marks, drops, asks, accepts, rejects, refuses, disconnect, release, ticks, rests, NextRecord, acts, bars, IsTheRecord, BecomesExactly, Leads, stays, goes, History}
 use Rattle.call_promises.proofs.Conditions.{has, serves-three}
 use Rattle.call_promises.proofs.Notes.{lacks}
 use Rattle.call_promises.proofs.Phases.{fresh, connectable, talking, active, up, live}
@@ -74,11 +74,11 @@ use Rattle.call_promises.specs.Sound.{Offered, runOf}
 
 -- ---- a record and the sentence that makes it
 
-left-by : {P : Call → Type 0} {c : Call} (d : Call) → c ≡ d → P d → ((n : Call) → P n → d ≡ n) → Left P c
+left-by : {P : Call → Type 0} {c : Call} (d : Call) → c ≡ d → P d → ((n : Call) → P n → d ≡ n) → IsTheRecord P c
 left-by {P} d e p u n = ((λ h. subst P (sym e ∙ h) p), (λ x. e ∙ u n x))
 
 -- an event that is let through makes of the record what its reply has, and one that is stopped nothing
-acted : (c : Call) (l : List ℕ) (e : Event) {d : Call} → Hears c e → (n : Call) → Left (Becomes c l e) d → NextRecord c l e n → d ≡ n
+acted : (c : Call) (l : List ℕ) (e : Event) {d : Call} → Hears c e → (n : Call) → IsTheRecord (Becomes c l e) d → NextRecord c l e n → d ≡ n
 acted c l e h n f (acts x b) = f n .1 b
 acted c l e h n f (bars x) = absurd (x h)
 
@@ -86,7 +86,7 @@ barred : (c : Call) (l : List ℕ) (e : Event) → (Hears c e → ⊥) → (n : 
 barred c l e h n (acts x b) = absurd (h x)
 barred c l e h n (bars x) = refl
 
-let-left : (c : Call) (l : List ℕ) (e : Event) (a g : Bool) (r : Reply) {s : Reply} → Let c a g r s → Tests c e a g → Left (Becomes c l e) (r .call) → Left (NextRecord c l e) (s .call)
+let-left : (c : Call) (l : List ℕ) (e : Event) (a g : Bool) (r : Reply) {s : Reply} → Let c a g r s → Tests c e a g → IsTheRecord (Becomes c l e) (r .call) → IsTheRecord (NextRecord c l e) (s .call)
 unfolding refusedOf
 let-left c l e a g r (through p q t) x f =
     let h = x .so p q t in λ n. ((λ k. acts h (f n .0 k)), (λ y. acted c l e h n f y))
@@ -177,7 +177,7 @@ module _ (c : Call) (n : ℕ) (r : Rights) (q : Requests) (l : List ℕ) where
   setup-one d (setup o x y z) =
       λ j. newRecord n r (opens-one o j) (stands-one r Service.One im is-implied (q .one) (implied-unasked (q .one) seen) x j) (asked-one r Service.Two (q .two) y j) (asked-one r Service.Three (q .three) z j)
 
-  setup-left : Left (Becomes c l (Event.Setup n r q)) (proceedsOf n r q seen .call)
+  setup-left : IsTheRecord (Becomes c l (Event.Setup n r q)) (proceedsOf n r q seen .call)
   unfolding proceedsOf filledOf standingsOf firstStandingOf nobodyAsks emptyMeters emptyOf
   setup-left =
       left-by opened refl
@@ -222,14 +222,14 @@ module _ (c : Call) (e : Event) (kind : Kind) (next : Phase) (f : Fates) where
       clears-one k g x d (on n s t u m) = absurd (n k g x)
       clears-one k g x d (clears y) = refl
 
-      answering-left : (seen : Seen) (x : Cause) → Outcome c e x → Left (Answered c e next) (answeringOf c kind next f seen x .call)
+      answering-left : (seen : Seen) (x : Cause) → Outcome c e x → IsTheRecord (Answered c e next) (answeringOf c kind next f seen x .call)
       unfolding goesOnOf clearsOf answeredCallOf settlesOf inPhaseOf
       answering-left seen Cause.Absent (sound n) =
           left-by goneOn refl
           (on n (settles-is c e Service.One one) (settles-is c e Service.Two two) (settles-is c e Service.Three three) (earned (third-of c e three))) (on-one n)
       answering-left seen (Cause.Value n) (fails k g x b u) = left-by (turnedTo c Phase.Clearing) refl (clears x) (clears-one k g x)
 
-wrapped : {P Q : Call → Type 0} {c : Call} → ((d : Call) → P d → Q d) → ((d : Call) → Q d → P d) → Left P c → Left Q c
+wrapped : {P Q : Call → Type 0} {c : Call} → ((d : Call) → P d → Q d) → ((d : Call) → Q d → P d) → IsTheRecord P c → IsTheRecord Q c
 wrapped f g t d = ((λ h. f d (t d .0 h)), (λ q. t d .1 (g d q)))
 
 module _ (c : Call) (a : Answers) (l : List ℕ) where
@@ -239,7 +239,7 @@ module _ (c : Call) (a : Answers) (l : List ℕ) where
   connected : (d : Call) → Becomes c l (Event.Connect a) d → Answered c (Event.Connect a) Phase.Active d
   connected d (connect x) = x
 
-  alerting-left : Left (Becomes c l (Event.Alerting a)) (answeredOf c Kind.Alerting Phase.Alerting (alertingFatesOf (c .standings) a) l .call)
+  alerting-left : IsTheRecord (Becomes c l (Event.Alerting a)) (answeredOf c Kind.Alerting Phase.Alerting (alertingFatesOf (c .standings) a) l .call)
   unfolding answeredOf failedOf
   alerting-left =
       let e = Event.Alerting a in
@@ -250,7 +250,7 @@ module _ (c : Call) (a : Answers) (l : List ℕ) where
       (answering-left c e Kind.Alerting Phase.Alerting _ x y z _ _
       (outcome c e (failure c e Service.One x) (failure c e Service.Two y) (failure c e Service.Three z)))
 
-  connect-left : Left (Becomes c l (Event.Connect a)) (answeredOf c Kind.Connect Phase.Active (connectFatesOf (not (requestedOf (c .phase))) (c .standings) a) l .call)
+  connect-left : IsTheRecord (Becomes c l (Event.Connect a)) (answeredOf c Kind.Connect Phase.Active (connectFatesOf (not (requestedOf (c .phase))) (c .standings) a) l .call)
   unfolding answeredOf failedOf
   connect-left =
       let e = Event.Connect a in
@@ -306,7 +306,7 @@ module _ (c : Call) (l : List ℕ) (side : Side) (more : Bool) where
   same Side.Calling = refl
   same Side.Called = refl
 
-  met-left : {n : Meter} {p : Passage} → n ≡ own → Met c l side n p → Left (Becomes c l informs) (metersOf c (spentOf (c .meters) side p))
+  met-left : {n : Meter} {p : Passage} → n ≡ own → Met c l side n p → IsTheRecord (Becomes c l informs) (metersOf c (spentOf (c .meters) side p))
   unfolding countedOf paidOf markedOf
   met-left {n} h (counted x) = left-by (withMeter c side (countedOf own)) (put _ side refl ∙ ap (λ (m : Meter). withMeter c side (countedOf m)) h) (counts x) (counts-one x)
   met-left {n} h (paid x) = left-by (withMeter c side (paidOf own)) (put _ side refl ∙ ap (λ (m : Meter). withMeter c side (paidOf m)) h) (pays x) (pays-one x)
@@ -314,7 +314,7 @@ module _ (c : Call) (l : List ℕ) (side : Side) (more : Bool) where
   met-left h (spent a b f) = left-by c (same side) (drops a b f) (drops-one a b f)
   met-left h (unserved a b f) = left-by c (same side) (drops a b f) (drops-one a b f)
 
-  damaged-left : (a : Answer) (note : Note) → (Intact c l → ⊥) → Left (Becomes c l informs) (refusedOf c a note .call)
+  damaged-left : (a : Answer) (note : Note) → (Intact c l → ⊥) → IsTheRecord (Becomes c l informs) (refusedOf c a note .call)
   unfolding refusedOf
   damaged-left a note n =
       let x : CountPays c l side → ⊥ = (λ y. n (y .intact)) in
@@ -322,11 +322,11 @@ module _ (c : Call) (l : List ℕ) (side : Side) (more : Bool) where
       let z : FirstDropped c l side → ⊥ = (λ w. n (w .credit .intact)) in
       left-by c refl (drops x y z) (drops-one x y z)
 
-  carried-left : Intact c l → Left (Becomes c l informs) (carriedOf c side more (informationPassageOf c side) .call)
+  carried-left : Intact c l → IsTheRecord (Becomes c l informs) (carriedOf c side more (informationPassageOf c side) .call)
   unfolding carriedOf replyOf
   carried-left i = met-left refl (met c l side i)
 
-  information-left : {s : Seen} → Sight l (c .rights .limit) s → Left (Becomes c l informs) (withElementOf c s (carriedOf c side more (informationPassageOf c side)) .call)
+  information-left : {s : Seen} → Sight l (c .rights .limit) s → IsTheRecord (Becomes c l informs) (withElementOf c s (carriedOf c side more (informationPassageOf c side)) .call)
   unfolding withElementOf
   information-left (absent z) = damaged-left _ _ (λ i. let k = i .formed .least in omega arith)
   information-left (malformed z w) = damaged-left _ _ (λ i. w (i .formed))
@@ -357,7 +357,7 @@ module _ (c : Call) (l : List ℕ) where
   rejects-one side a d (rejects x) = refl
   rejects-one side a d (refuses x) = absurd (x a)
 
-  agreed-left : (side : Side) (what : What) → Agreed c (says side what) → Left (Becomes c l (says side what)) (facilityCallOf c side what)
+  agreed-left : (side : Side) (what : What) → Agreed c (says side what) → IsTheRecord (Becomes c l (says side what)) (facilityCallOf c side what)
   unfolding facilityCallOf grantsOf grantedOf nobodyAsks
   agreed-left Side.Calling What.Preferred a = left-by (askingFrom c Side.Calling true) refl (asks a) (asks-one Side.Calling a)
   agreed-left Side.Called What.Preferred a = left-by (askingFrom c Side.Called true) refl (asks a) (asks-one Side.Called a)
@@ -366,12 +366,12 @@ module _ (c : Call) (l : List ℕ) where
   agreed-left Side.Called What.Reject a = left-by (askingFrom c Side.Calling false) refl (rejects a) (rejects-one Side.Called a)
   agreed-left side What.Required a = absurd (a .preferred (tells refl))
 
-  verdict-left : (side : Side) (what : What) (v : Answer) → Verdict c (says side what) (takenOf v) (notGrantedOf v) → Left (Becomes c l (says side what)) (cond (takenOf v) (facilityCallOf c side what) c)
+  verdict-left : (side : Side) (what : What) (v : Answer) → Verdict c (says side what) (takenOf v) (notGrantedOf v) → IsTheRecord (Becomes c l (says side what)) (cond (takenOf v) (facilityCallOf c side what) c)
   verdict-left side what v (agreed a t b) = rw t (agreed-left side what a)
   verdict-left side what v (ungranted x y t b) = rw t (left-by c refl (refuses (λ a. a .granted y)) (refuses-one side what (λ a. a .granted y)))
   verdict-left side what v (neither n o t b) = rw t (left-by c refl (refuses n) (refuses-one side what n))
 
-  facility-left : (side : Side) (what : What) → Left (Becomes c l (says side what)) (passesFacilityOf c side what (facilityVerdictOf c side what) .call)
+  facility-left : (side : Side) (what : What) → IsTheRecord (Becomes c l (says side what)) (passesFacilityOf c side what (facilityVerdictOf c side what) .call)
   unfolding passesFacilityOf replyOf
   facility-left side what = verdict-left side what (facilityVerdictOf c side what) (verdict c l side what)
 
@@ -407,7 +407,7 @@ module _ (c : Call) (l : List ℕ) (side : Side) (cause : ℕ) (a : Answers) whe
   disconnect-one : {s : Standing} → Last c side (a .one) s → (d : Call) → Becomes c l (Event.Disconnect side cause a) d → closing s ≡ d
   disconnect-one x d (disconnect y) = ap closing (one-last c side (a .one) x y)
 
-  disconnect-left : (seen : Seen) → Left (Becomes c l (Event.Disconnect side cause a)) (passedOnOf c side cause (heardAnswersOf side a) seen .call)
+  disconnect-left : (seen : Seen) → IsTheRecord (Becomes c l (Event.Disconnect side cause a)) (passedOnOf c side cause (heardAnswersOf side a) seen .call)
   unfolding passedOnOf replyOf closedCallOf
   disconnect-left seen = let x = last-is c side a in left-by (closing _) refl (disconnect x) (disconnect-one x)
 
@@ -415,7 +415,7 @@ module _ (c : Call) (l : List ℕ) (side : Side) where
   release-one : (d : Call) → Becomes c l (Event.ReleaseComplete side) d → turnedTo c Phase.Ended ≡ d
   release-one d release = refl
 
-  release-left : Left (Becomes c l (Event.ReleaseComplete side)) (endsOf c side .call)
+  release-left : IsTheRecord (Becomes c l (Event.ReleaseComplete side)) (endsOf c side .call)
   unfolding endsOf replyOf inPhaseOf
   release-left = left-by (turnedTo c Phase.Ended) refl release release-one
 
@@ -450,10 +450,10 @@ module _ (c : Call) (l : List ℕ) where
   rests-one n d (ticks t x y) = absurd (n t)
   rests-one n d (rests m) = refl
 
-  tick-left : Left (Becomes c l Event.Tick) (passesTickOf c .call)
+  tick-left : IsTheRecord (Becomes c l Event.Tick) (passesTickOf c .call)
   unfolding passesTickOf refillsOf tickedMetersOf tickedOf metersOf runsOf
   tick-left =
-      by-cond (λ (m : Meters). Left (Becomes c l Event.Tick) (altered c (c .phase) (c .standings) (c .asking) m)) (servesThreeOf (c .phase) (inForceOf (c .standings .three)))
+      by-cond (λ (m : Meters). IsTheRecord (Becomes c l Event.Tick) (altered c (c .phase) (c .standings) (c .asking) m)) (servesThreeOf (c .phase) (inForceOf (c .standings .three)))
       (λ h.
       let s = serves-three c .so h in
       left-by (refreshed _ _) refl (ticks s (refilled-is (c .rights) _) (refilled-is (c .rights) _)) (ticks-one s))
@@ -461,7 +461,7 @@ module _ (c : Call) (l : List ℕ) where
 
 -- ---- any event
 
-no-event : (c : Call) (l : List ℕ) (e : Event) → (Allowed e (c .phase) → ⊥) → Left (NextRecord c l e) (notAnEventOf c .call)
+no-event : (c : Call) (l : List ℕ) (e : Event) → (Allowed e (c .phase) → ⊥) → IsTheRecord (NextRecord c l e) (notAnEventOf c .call)
 unfolding notAnEventOf refusedOf
 no-event c l e n =
     let h : Hears c e → ⊥ = (λ k. n (k .allowed)) in
@@ -491,10 +491,10 @@ ran-none : {c d : Call} → Leads c [] d → c ≡ d
 ran-none stays = refl
 
 module _ (f : Core) (b : BecomesExactly f) where
-  ran-on : (c : Call) (o : Offered) (os : List Offered) (r : Call) → ((d : Call) → Left (Leads d os) (runOf f d os)) → Leads c (o ∷ os) r → runOf f (f c (o .event) (o .element) .call) os ≡ r
+  ran-on : (c : Call) (o : Offered) (os : List Offered) (r : Call) → ((d : Call) → IsTheRecord (Leads d os) (runOf f d os)) → Leads c (o ∷ os) r → runOf f (f c (o .event) (o .element) .call) os ≡ r
   ran-on c o os r h (goes {d = d} n x) = ap (λ (k : Call). runOf f k os) (b c (o .event) (o .element) d .1 n) ∙ h d r .1 x
 
-  ran : (os : List Offered) (c : Call) → Left (Leads c os) (runOf f c os)
+  ran : (os : List Offered) (c : Call) → IsTheRecord (Leads c os) (runOf f c os)
   ran [] c d = ((λ h. subst (Leads c []) h stays), ran-none)
   ran (o ∷ os) c r = ((λ h. goes (b c (o .event) (o .element) _ .0 refl) (ran os _ r .0 h)), ran-on c o os r (ran os))
 

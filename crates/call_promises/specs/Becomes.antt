@@ -65,8 +65,8 @@ abbrev pub toppedBoth : Call → Meters
 toppedBoth c =
     record { calling = topped (c .meters .calling) (c .rights .burst); called = topped (c .meters .called) (c .rights .burst) }
 
--- SETUP. How a service stands: "Each service is not asked, preferred or required"; a service that the rights lack is
--- closed; "Implicit service 1 is then in force."
+-- SETUP. How a service stands, whether the call goes on or ends: "Each service is not asked, preferred or required";
+-- one that is asked for and lacking in the rights is closed; "Implicit service 1 is then in force."
 pub data Stands (r : Rights) (k : Service) (q : Request) (Implicit : Type 0) : Standing → Type 0 where
   unasked : q ≡ Request.Unasked → (Implicit → ⊥) → Stands r k q Implicit Standing.Unasked
   preferred : q ≡ Request.Preferred → Has r k → Stands r k q Implicit Standing.Preferred
@@ -106,6 +106,7 @@ pub data Answered (c : Call) (e : Event) (next : Phase) : Call → Type 0 where
       {s t u : Standing} {one two three : Said} {m : Meters} → ((k : Service) (g : Given) → FailsAt c e k g → ⊥) →
       Settles c e Service.One s one → Settles c e Service.Two t two → Settles c e Service.Three u three → Earns c e m →
       Answered c e next (altered c next (record { one = s; two = t; three = u }) (c .asking) m)
+  -- an acceptance beside the failure leaves no trace: docs/DECISIONS.md, One call 16
   clears : {k : Service} {g : Given} → FailsAt c e k g → Answered c e next (turnedTo c Phase.Clearing)
 
 -- DISCONNECT. "an acceptance of open service 1 counts first"
@@ -141,7 +142,7 @@ pub data Becomes (c : Call) (l : List ℕ) : Event → Call → Type 0 where
       {side : Side} {more : Bool} → FirstDropped c l side →
       Becomes c l (Event.Information side more)
       (withMeter c side (record { credit = meterFrom c side .credit; mark = true; count = meterFrom c side .count }))
-  -- 17, 13, and every later 14
+  -- 17, 13, 14 without service 3, and every later 14 for want of credit
   drops :
       {side : Side} {more : Bool} → (CountPays c l side → ⊥) → (CreditPays c l side → ⊥) → (FirstDropped c l side → ⊥) →
       Becomes c l (Event.Information side more) c
@@ -181,18 +182,18 @@ pub data NextRecord (c : Call) (l : List ℕ) (e : Event) : Call → Type 0 wher
   bars : (Hears c e → ⊥) → NextRecord c l e c
 
 -- P holds of a record exactly if it is this one
-abbrev pub Left : (Call → Type 0) → Call → Type 0
-Left P c = (d : Call) → (c ≡ d → P d) × (P d → c ≡ d)
+abbrev pub IsTheRecord : (Call → Type 0) → Call → Type 0
+IsTheRecord P c = (d : Call) → (c ≡ d → P d) × (P d → c ≡ d)
 
 -- BECOMES. For every record, sound or not, every event and every element: the next record.
 abbrev pub BecomesExactly : Core → Type 0
-BecomesExactly f = (c : Call) (e : Event) (l : List ℕ) → Left (NextRecord c l e) (f c e l .call)
+BecomesExactly f = (c : Call) (e : Event) (l : List ℕ) → IsTheRecord (NextRecord c l e) (f c e l .call)
 
--- HISTORY. After every list of events from a fresh record the record is the one that the events and their elements
+-- HISTORY. After every list of events from `freshCall` the record is the one that the events and their elements
 -- alone make: phase, reference, rights, the standing of each service, whose request is open, credit, mark and count.
 pub data Leads : Call → List Offered → Call → Type 0 where
   stays : {c : Call} → Leads c [] c
   goes : {o : Offered} {os : List Offered} {c d r : Call} → NextRecord c (o .element) (o .event) d → Leads d os r → Leads c (o ∷ os) r
 
 abbrev pub History : Core → Type 0
-History f = (os : List Offered) → Left (Leads freshCall os) (runOf f freshCall os)
+History f = (os : List Offered) → IsTheRecord (Leads freshCall os) (runOf f freshCall os)

@@ -110,7 +110,7 @@ pub record Counts (c : Call) (e : Event) (k : Service) (g : Given) : Type 0 wher
   pub due : Due (c .phase) e k g
   pub asked : Open (standingFor (c .standings) k)
 
--- How a service stands after ALERTING or CONNECT, and what the caller is told of it where the message goes on:
+-- Where the message goes on: how a service stands after ALERTING or CONNECT, and what the caller is told of it.
 -- "Accepted: in force. Preferred and not accepted: closed, rejectedByUser to the caller."
 pub data Settles (c : Call) (e : Event) (k : Service) : Standing → Said → Type 0 where
   accepted : Counts c e k Given.Accepted → Settles c e k Standing.InForce Said.Accepted
@@ -212,7 +212,7 @@ pub data LastWord (c : Call) (side : Side) (k : Service) (g : Given) : Said → 
   accepts : Accepting c side k g → LastWord c side k g Said.Accepted
   mute : (Rejecting c side k g → ⊥) → (Accepting c side k g → ⊥) → LastWord c side k g Said.Nothing
 
--- What a user is sent at an event that is acted on.
+-- What a user is sent at an event that 25, 12, 11 and 24 do not keep from being looked at.
 pub data Sends (c : Call) (l : List ℕ) : Event → Side → Message → Type 0 where
   -- "If a required service is not in the rights: RELEASE COMPLETE to the caller, cause 50"
   released :

@@ -83,9 +83,9 @@ pub data AsksFor : Service → Event → List ℕ → Type 0 where
   element : {reference : ℕ} {rights : Rights} {q : Requests} {l : List ℕ} → Has rights Service.One → Implied rights q l → AsksFor Service.One (Event.Setup reference rights q) l
   facility : {side : Side} {l : List ℕ} → AsksFor Service.Three (Event.Facility side What.Preferred) l
 
--- an event accepts a service that is due: "ALERTING .. Answers to 1 and 2 are due. CONNECT .. The answer to 3 is due,
--- and to 1 if no ALERTING came"; DISCONNECT from the called side for service 1; FACILITY for service 3; an element in
--- SETUP puts service 1 in force by itself
+-- an event accepts a service, of those that can be due at its kind: "ALERTING .. Answers to 1 and 2 are due. CONNECT ..
+-- The answer to 3 is due, and to 1 if no ALERTING came" (whether one came, `Becomes` looks at); DISCONNECT from the
+-- called side for service 1; FACILITY for service 3; an element in SETUP puts service 1 in force by itself
 pub data Accepts : Service → Event → List ℕ → Type 0 where
   alerting : {k : Service} {a : Answers} {l : List ℕ} → (k ≡ Service.Three → ⊥) → answerFor a k ≡ Given.Accepted → Accepts k (Event.Alerting a) l
   connect : {k : Service} {a : Answers} {l : List ℕ} → (k ≡ Service.Two → ⊥) → answerFor a k ≡ Given.Accepted → Accepts k (Event.Connect a) l

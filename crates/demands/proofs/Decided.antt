@@ -20,7 +20,7 @@ use Rattle.call.specs.Step.{stepOf}
 use Rattle.call_promises.specs.Numbers.{Core, answerRows}
 use Rattle.call_promises.specs.Notes.{noteRows}
 use Rattle.call_promises.specs.Sends.{IsWhatIsSent}
-use Rattle.call_promises.specs.Becomes.{Left}
+use Rattle.call_promises.specs.Becomes.{IsTheRecord}
 use Rattle.demands.specs.Demands.{Demands, Decided}
 use Rattle.demands.proofs.Meets.{meets}
 
@@ -77,7 +77,7 @@ same-sent P Sent.Absent Sent.Absent p q = refl
 same-sent P Sent.Absent (Sent.Present m) p q = absurd (absent (p m .1 (q m .0 refl)))
 same-sent P (Sent.Present m) t p q = sym (q m .1 (p m .0 refl))
 
-same-call : (P : Call → Type 0) (c d : Call) → Left P c → Left P d → c ≡ d
+same-call : (P : Call → Type 0) (c d : Call) → IsTheRecord P c → IsTheRecord P d → c ≡ d
 same-call P c d p q = p d .1 (q d .0 refl)
 
 pub decided : Decided

@@ -45,7 +45,7 @@ use Rattle.call_promises.specs.Numbers.{Core}
 use Rattle.call_cases.specs.ShutOut.{refuses, fixed, mute, nods}
 use Rattle.call_cases.proofs.ShutOut.{shut-out}
 use Rattle.demands.specs.Demands.{Demands}
-use Rattle.demands.specs.WrongCores.{but, opensBoth, keepsMarks, keepsOpen, creditsOne, never29, blamesCalled, leavesAsking, mumbles, returns, forgetsThree, leavesElement, WrongCores}
+use Rattle.demands.specs.WrongCores.{but, opensBoth, keepsMarks, keepsOpen, creditsOne, never29, blamesCalled, leavesAsking, invents, mumbles, returns, forgetsThree, leavesElement, WrongCores}
 use Rattle.demands.proofs.Decided.{decided}
 
 -- a call with every right, in some phase, with services and marks as they may be
@@ -172,6 +172,7 @@ record Facts : Type 0 where
   ticks : (ours ticked .call .meters .calling .mark ≡ false) × (theirs keepsMarks ticked .call .meters .calling .mark ≡ true)
   closes : (isClosed (ours unanswered .call .standings .one) ≡ true) × (isClosed (theirs keepsOpen unanswered .call .standings .one) ≡ false)
   credits : (ours accepted .call .meters .called .credit ≡ 2) × (theirs creditsOne accepted .call .meters .called .credit ≡ 0)
+  fills : (ours ticked .call .meters .calling .credit ≡ 1) × (theirs invents ticked .call .meters .calling .credit ≡ 2)
   blames : (causeIn (ours rejected .calling) ≡ 29) × (causeIn (theirs never29 rejected .calling) ≡ 69)
   clears : (causeIn (ours rejected .called) ≡ 31) × (causeIn (theirs blamesCalled rejected .called) ≡ 69)
   warns : (causeIn (ours unpaid .calling) ≡ 43) × (causeIn (theirs mumbles unpaid .calling) ≡ 128)
@@ -188,6 +189,7 @@ facts =
       ticks = (refl, refl);
       closes = (refl, refl);
       credits = (refl, refl);
+      fills = (refl, refl);
       blames = (refl, refl);
       clears = (refl, refl);
       warns = (refl, refl);
@@ -218,6 +220,7 @@ wrong-cores =
       keepingMarks = differs keepsMarks ticked (λ r. r .call .meters .calling .mark) (facts .ticks .0) (facts .ticks .1);
       keepingOpen = lacks keepsOpen unanswered (λ r. isClosed (r .call .standings .one)) (facts .closes .0) (facts .closes .1);
       creditingOne = counts creditsOne accepted (λ r. r .call .meters .called .credit) 2 0 (facts .credits .0) (facts .credits .1) (omega arith);
+      inventing = counts invents ticked (λ r. r .call .meters .calling .credit) 1 2 (facts .fills .0) (facts .fills .1) (omega arith);
       neverRejecting = counts never29 rejected (λ r. causeIn (r .calling)) 29 69 (facts .blames .0) (facts .blames .1) (omega arith);
       blaming = counts blamesCalled rejected (λ r. causeIn (r .called)) 31 69 (facts .clears .0) (facts .clears .1) (omega arith);
       mumbling = counts mumbles unpaid (λ r. causeIn (r .calling)) 43 128 (facts .warns .0) (facts .warns .1) (omega arith);

@@ -1,7 +1,7 @@
 -- DEMAND 1, as one statement: every octet string and every call event, in every phase, ends with one of the numbers in
 -- the paper; a refusal changes nothing except the one congestion mark, and sends nothing but for 14's and 16's message.
--- That a number is one of the paper's follows from the types of the replies; which it is and when, `Reads` says of octet
--- strings, `Table` and `Answers` of events.
+-- That a number is one of the paper's follows from the types of the replies; which it is and when, `Reads` says of
+-- octet strings, `Table` and `Answers` of events.
 use Prim.Native.Nat.{ℕ, _≤_}
 use mathlib.Core.List.{List}
 use mathlib.Core.Logic.{_⊎_}
@@ -47,8 +47,8 @@ pub record OneMessage (o : Outcome) (side : Side) (s : Sent) : Type 0 where
   pub back : outTo o side ≡ s
   pub on : outTo o (other side) ≡ Sent.Absent
 
--- 14 at USER INFORMATION: one live record of the reference n has the sender's mark set and is else as it was, as all other
--- records are, and the sender is told not ready; or nothing is changed and nothing is sent
+-- 14 at USER INFORMATION: one live record of the reference n has the sender's mark set and is else as it was, as all
+-- other records are, and the sender is told not ready; or nothing is changed and nothing is sent
 pub record MarkSet (t s : List Call) (n : ℕ) (o : Outcome) (side : Side) : Type 0 where
   pub place : ℕ
   pub live : LiveAt t place n

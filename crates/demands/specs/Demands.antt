@@ -1,6 +1,6 @@
 -- THE FRONT PAGE. What is demanded of a core: any function that replies to an event with its element at a record. Each
--- field is a promise that stands in `call_promises`; `meets` says that this core keeps them all, and `Decided` that no
--- other does.
+-- field is a promise that stands in `call_promises`; `proofs/Meets.antt` shows that this core keeps them all, and
+-- `Decided` that no other does.
 use Prim.Native.Nat.{ℕ}
 use mathlib.Core.List.{List}
 use mathlib.Core.Path.{_≡_}
@@ -28,8 +28,9 @@ pub record Demands (f : Core) : Type 0 where
   -- a call that began fresh never comes to hold what is out of range
   pub sound : Sound f
   pub neverUnsound : NeverUnsound f
-  -- DEMAND 2. User information goes out unaltered, and only under a service in force in that phase or, in SETUP, still
-  -- asked for; what has no note does go out
+  -- DEMAND 2. User information goes out unaltered (the core holds no octets of it: a message says whether the event's
+  -- own element goes in it, and `Sending` in `wire_promises` that the octets stay what they are on the line), and only
+  -- under a service in force in that phase or, in SETUP, still asked for; what has no note does go out
   pub unaltered : Unaltered f
   pub goesOut : GoesOut f
   pub underAService : UnderAService f
@@ -42,8 +43,8 @@ pub record Demands (f : Core) : Type 0 where
   -- CREDITS. Each credit and count is what the events make it, and nothing goes over unpaid
   pub credit : Credit f
   pub covered : Covered f
-  -- THE REST OF THE PAPER. What each user is sent, and every field of the next record, for every record, event and
-  -- element; and so after every run
+  -- THE REST OF THE PAPER ON ONE CALL. What each user is sent, and every field of the next record, for every record,
+  -- event and element; and so after every run
   pub sends : SendsExactly f
   pub becomes : BecomesExactly f
   pub history : History f

@@ -14,7 +14,7 @@ use Rattle.trace_run.specs.declared.Worked.{Worked}
 use Rattle.trace_run.specs.Run.{WorkedOff}
 
 pub record OneReply : Type 1 where
-  -- the result, or what is lent at exit, is a definition's value
+  -- the result, or what is lent at exit, is a definition's value: here all lies in the definition that is cited
   pub valued : (A : Type 0) (value r s : A) → r ≡ value → s ≡ value → r ≡ s
   -- a piece was to be written into lent memory
   pub written :

@@ -1,6 +1,7 @@
 -- Cores that are no core of ours: those that the paper names, "always refuses, has one fixed reply, sends nothing, or
--- handles only SETUP and nods later"; and cores with one rule wrong, in what they do and in what is said of them alike.
-use Prim.Native.Nat.{ℕ}
+-- handles only SETUP and nods later"; and ours with its replies changed, so that the rule named is broken (by some of
+-- them another besides: what is changed is the reply, whatever the event was).
+use Prim.Native.Nat.{ℕ, _+_}
 use mathlib.Core.List.{List}
 use mathlib.Core.Bool.{Bool, true, false, cond, _&&_, _||_}
 use lib.Dec.{eqb, ltb}
@@ -48,7 +49,7 @@ opensBoth c r =
       meters = r .call .meters;
     })
 
--- an acceptance leaves the request open that it accepts
+-- a request that is answered stays open
 abbrev pub leavesAsking : Call → Reply → Reply
 leavesAsking c r =
     withCall r
@@ -85,7 +86,7 @@ keepsMarks c r =
           };
     })
 
--- a preferred service that is not accepted stays open, and a later DISCONNECT revives it
+-- service 1, preferred and not accepted, stays open, and a later DISCONNECT revives it
 abbrev pub stays : Standing → Standing → Standing
 stays Standing.Unasked t = t
 stays Standing.Preferred Standing.Unasked = Standing.Unasked
@@ -114,7 +115,7 @@ keepsOpen c r =
       meters = r .call .meters;
     })
 
--- service 3 coming into force gives credit to the calling direction alone
+-- credit is given to the calling direction alone
 abbrev pub creditsOne : Call → Reply → Reply
 creditsOne c r =
     withCall r
@@ -136,11 +137,33 @@ creditsOne c r =
           };
     })
 
+-- every event gives the calling direction a credit
+abbrev pub invents : Call → Reply → Reply
+invents c r =
+    withCall r
+    (record {
+      reference = r .call .reference;
+      rights = r .call .rights;
+      phase = r .call .phase;
+      standings = r .call .standings;
+      asking = r .call .asking;
+      meters =
+          record {
+            calling =
+                record {
+                  credit = r .call .meters .calling .credit + 1;
+                  mark = r .call .meters .calling .mark;
+                  count = r .call .meters .calling .count;
+                };
+            called = r .call .meters .called;
+          };
+    })
+
 abbrev pub withCause : Message → Cause → Message
 withCause m cause =
     record { kind = m .kind; cause = cause; level = m .level; said = m .said; more = m .more; element = m .element }
 
--- an explicit rejection gives 69, never 29
+-- nobody hears cause 29: an explicit rejection gives 69
 abbrev pub sixtyNine : Cause → Cause
 sixtyNine Cause.Absent = Cause.Absent
 sixtyNine (Cause.Value n) = Cause.Value (cond (eqb n 29) 69 n)
@@ -148,7 +171,7 @@ sixtyNine (Cause.Value n) = Cause.Value (cond (eqb n 29) 69 n)
 abbrev pub never29 : Call → Reply → Reply
 never29 c r = withSent r (inEach (λ m. withCause m (sixtyNine (m .cause))) (r .calling)) (r .called)
 
--- where a required service fails the called user hears 69, and not 31
+-- the called user never hears 31: where a required service fails it hears 69
 abbrev pub never31 : Cause → Cause
 never31 Cause.Absent = Cause.Absent
 never31 (Cause.Value n) = Cause.Value (cond (eqb n 31) 69 n)
@@ -176,7 +199,7 @@ abbrev pub returns : Call → Reply → Reply
 returns c r =
     cond (bareRelease (r .calling) || bareRelease (r .called)) (withSent r (r .called) (r .calling)) r
 
--- what is passed on of requests and answers says nothing of service 3
+-- no message says anything of service 3
 abbrev pub withoutThree : Message → Message
 withoutThree m =
     record {
@@ -210,6 +233,7 @@ pub record WrongCores : Type 0 where
   pub keepingMarks : Demands (but keepsMarks) → ⊥
   pub keepingOpen : Demands (but keepsOpen) → ⊥
   pub creditingOne : Demands (but creditsOne) → ⊥
+  pub inventing : Demands (but invents) → ⊥
   pub neverRejecting : Demands (but never29) → ⊥
   pub blaming : Demands (but blamesCalled) → ⊥
   pub mumbling : Demands (but mumbles) → ⊥
