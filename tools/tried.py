@@ -18,8 +18,9 @@ INTRODUCTION = """\
 This page is made by `tools/tried.py` from the edits in `crates/*/must-fail` and what the prover said of each in
 `target/must-fail` (`rt must-fail`, then `python3 tools/tried.py`): change the edits, and not this page.
 
-A name is that of a file in the crate's `must-fail/`, whose first line says what is wrong. A function is refused where
-its own body or its definition is wrong, or a function of its crate on which it rests.
+A name is that of a file in the crate's `must-fail/`. Its first line says what the wrong program does or, after
+`broken:`, the rule that does not hold in it. A function is refused where its own body or its definition is wrong, or a
+function of its crate on which it rests.
 """
 
 BY_FILE = "By the file that is changed: here the prover refused a proof of the crate, and no public function."
