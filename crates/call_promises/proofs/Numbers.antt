@@ -37,7 +37,7 @@ use Rattle.call.specs.Sound.{soundOf}
 use Rattle.call.specs.Step.{notAnEventOf, stepOf}
 use Rattle.call.specs.Tick.{passesTickOf, tickOf}
 use Rattle.call_promises.specs.Ranges.{Unsound}
-use Rattle.call_promises.specs.Numbers.{NotAnEvent, Allowed, OutOfRange, Informs, sends, Says, tells, InForce, WellFormed, Has, Asks, ServesTwo, ServesThree, IsRequest, IsAnswer, meterFrom, other, answerRows, Answers}
+use Rattle.call_promises.specs.Numbers.{NotAnEvent, Allowed, OutOfRange, Informs, sends, Says, tells, InForce, WellFormed, Has, Asks, ServesTwo, ServesThree, IsRequest, IsAnswer, meterFrom, other, answerRows, AnswersExactly}
 use Rattle.logic.proofs.Decide.{never, by-cond, Decides, Denies, denied, via, both, either, neither, as-is, always, over}
 use Rattle.call_promises.proofs.Phases.{fresh, requested, connectable, talking, active, up, live}
 use Rattle.call_promises.proofs.Ranges.{unsound, reference-range, rights-range}
@@ -293,5 +293,5 @@ answer-first c Event.Tick l =
 answer-first c Event.CallProceeding l = not-an-event-rows c _ l _ refl (unsound c) (inl refl)
 answer-first c Event.CongestionControl l = not-an-event-rows c _ l _ refl (unsound c) (inr refl)
 
-pub answers : Answers stepOf
+pub answers : AnswersExactly stepOf
 answers c e l = exactly (answerRows c e l) _ (answer-first c e l)

@@ -97,8 +97,8 @@ abbrev pub NoService : Call → Event → Type 0
 NoService c e = Informs (λ side. (ServesTwo c side → ⊥) × (ServesThree c → ⊥)) e
 
 -- 14: "USER INFORMATION, count or credit spent". Of every service that serves it nothing is left.
-abbrev pub Spent : Call → Event → Type 0
-Spent c e =
+abbrev pub UsedUp : Call → Event → Type 0
+UsedUp c e =
     Informs (λ side. (ServesTwo c side → 2 ≤ meterFrom c side .count) × (ServesThree c → meterFrom c side .credit ≡ 0)) e
 
 -- a request for service 3 while connected, and an answer to one
@@ -152,12 +152,12 @@ answerRows c e l =
     (row (OutOfRange e) 24
     (row (BadElement c e l) 17
     (row (NoService c e) 13
-    (row (Spent c e) 14
+    (row (UsedUp c e) 14
     (row (AskedRequired e) 18
     (row (NotGranted c e) 16
     (row (NotOpen c e) 15 end)))))))))
 
 -- ANSWERS. For every record, event and element: a number is given exactly when the table says it, and 0 exactly when no
 -- row applies.
-abbrev pub Answers : Core → Type 0
-Answers f = (c : Call) (e : Event) (l : List ℕ) → Exactly (answerRows c e l) (numberOf (f c e l .answer))
+abbrev pub AnswersExactly : Core → Type 0
+AnswersExactly f = (c : Call) (e : Event) (l : List ℕ) → Exactly (answerRows c e l) (numberOf (f c e l .answer))

@@ -7,7 +7,7 @@ use mathlib.Core.Path.{_≡_}
 use Rattle.call.specs.declared.Call.{Call}
 use Rattle.event.specs.declared.Event.{Event}
 use Rattle.call.specs.Step.{stepOf}
-use Rattle.call_promises.specs.Numbers.{Core, Answers}
+use Rattle.call_promises.specs.Numbers.{Core, AnswersExactly}
 use Rattle.call_promises.specs.Notes.{Notes}
 use Rattle.call_promises.specs.Refusals.{Refusals}
 use Rattle.call_promises.specs.Sound.{Sound, NeverUnsound}
@@ -22,7 +22,7 @@ pub record Demands (f : Core) : Type 0 where
   -- DEMAND 1. Every event, in every phase, ends with one of the numbers in the paper, in the paper's order, and with
   -- the note on its element; a refusal changes nothing except the one congestion mark, and sends nothing but for 14 and
   -- 16
-  pub answers : Answers f
+  pub answers : AnswersExactly f
   pub notes : Notes f
   pub refusals : Refusals f
   -- a call that began fresh never comes to hold what is out of range
