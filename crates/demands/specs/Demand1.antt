@@ -1,7 +1,7 @@
 -- DEMAND 1, as one statement: every octet string and every call event, in every phase, ends with one of the numbers in
 -- the paper; a refusal changes nothing except the one congestion mark, and sends nothing but for 14's and 16's message.
 -- That a number is one of the paper's follows from the types of the replies; which it is and when, `Reads` says of
--- octet strings, `Table` and `Answers` of events.
+-- octet strings, `Table` and `AnswersExactly` of events.
 use Prim.Native.Nat.{ℕ, _≤_}
 use mathlib.Core.List.{List}
 use mathlib.Core.Logic.{_⊎_}

@@ -1,5 +1,5 @@
--- What is sent at the table, and what a taken event leaves there. `Met` in Alone.antt computes runs with events that
--- the table refuses (21, 22, 23), that the call refuses (13) and that are taken.
+-- What is sent at the table, and what a taken event leaves there. `AloneMet` in Alone.antt computes runs with events
+-- that the table refuses (21, 22, 23), that the call refuses (13) and that are taken.
 use Prim.Native.Nat.{ℕ}
 use mathlib.Core.Bool.{false, cond}
 use mathlib.Core.List.{List}
