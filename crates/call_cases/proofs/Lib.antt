@@ -1,3 +1,3 @@
 pub mod Instances
 pub mod MoreInstances
-pub mod ShutOut
+pub mod Handed

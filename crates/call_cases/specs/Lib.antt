@@ -2,4 +2,3 @@ pub mod Cases
 pub mod Instances
 pub mod Handed
 pub mod MoreInstances
-pub mod ShutOut

@@ -17,10 +17,11 @@ use Rattle.call.specs.declared.Call.{Call}
 use Rattle.call.specs.declared.reply.Reply.{Reply}
 use Rattle.event.specs.declared.Event.{Event}
 use Rattle.call.specs.Step.{stepOf}
-use Rattle.call_promises.specs.Numbers.{Core, answerRows}
+use Rattle.call_promises.specs.Numbers.{Core, answerRows, AnswersExactly}
 use Rattle.call_promises.specs.Notes.{noteRows}
-use Rattle.call_promises.specs.Sends.{IsWhatIsSent}
-use Rattle.call_promises.specs.Becomes.{IsTheRecord}
+use Rattle.call_promises.specs.Refusals.{sentTo}
+use Rattle.call_promises.specs.Sends.{IsWhatIsSent, SendsExactly}
+use Rattle.call_promises.specs.Becomes.{IsTheRecord, BecomesExactly}
 use Rattle.demands.specs.Demands.{Demands, Decided}
 use Rattle.demands.proofs.Meets.{meets}
 
@@ -80,11 +81,21 @@ same-sent P (Sent.Present m) t p q = sym (q m .1 (p m .0 refl))
 same-call : (P : Call → Type 0) (c d : Call) → IsTheRecord P c → IsTheRecord P d → c ≡ d
 same-call P c d p q = p d .1 (q d .0 refl)
 
+-- what three of the demands fix of a reply
+pub same-record : (f : Core) → BecomesExactly f → (c : Call) (e : Event) (l : List ℕ) → f c e l .call ≡ stepOf c e l .call
+same-record f d c e l = same-call _ _ _ (d c e l) (meets .becomes c e l)
+
+pub same-numbers : (f : Core) → AnswersExactly f → (c : Call) (e : Event) (l : List ℕ) → numberOf (f c e l .answer) ≡ numberOf (stepOf c e l .answer)
+same-numbers f d c e l = same-number (answerRows c e l) _ _ (d c e l) (meets .answers c e l)
+
+pub same-messages : (f : Core) → SendsExactly f → (c : Call) (e : Event) (l : List ℕ) (side : Side) → sentTo (f c e l) side ≡ sentTo (stepOf c e l) side
+same-messages f d c e l side = same-sent _ _ _ (d c e l side) (meets .sends c e l side)
+
 pub decided : Decided
 decided f d c e l =
-    let call = same-call _ _ _ (d .becomes c e l) (meets .becomes c e l) in
-    let answer = same-answer _ _ (same-number (answerRows c e l) _ _ (d .answers c e l) (meets .answers c e l)) in
+    let call = same-record f (d .becomes) c e l in
+    let answer = same-answer _ _ (same-numbers f (d .answers) c e l) in
     let note = same-note _ _ (same-number (noteRows c e l) _ _ (d .notes c e l) (meets .notes c e l)) in
-    let calling = same-sent _ _ _ (d .sends c e l Side.Calling) (meets .sends c e l Side.Calling) in
-    let called = same-sent _ _ _ (d .sends c e l Side.Called) (meets .sends c e l Side.Called) in
+    let calling = same-messages f (d .sends) c e l Side.Calling in
+    let called = same-messages f (d .sends) c e l Side.Called in
     λ i. record { call = call i; answer = answer i; note = note i; calling = calling i; called = called i }

@@ -43,8 +43,8 @@ use Rattle.call_cases.proofs.Instances.{example}
 use Rattle.call_cases.proofs.MoreInstances.{more-instances}
 use Rattle.call_cases.proofs.MoreInstances.{none-left-out}
 use Rattle.call_cases.proofs.MoreInstances.{credit-shown}
-use Rattle.call_cases.proofs.ShutOut.{handed}
-use Rattle.call_cases.proofs.ShutOut.{held}
+use Rattle.call_cases.proofs.Handed.{handed}
+use Rattle.call_cases.proofs.Handed.{held}
 use Rattle.call_promises.proofs.LentMeter.{lent-met}
 use Rattle.table_promises.proofs.AloneMet.{met as table-met}
 use Rattle.table_promises.proofs.AloneMet.{needed}

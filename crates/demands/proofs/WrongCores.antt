@@ -1,18 +1,20 @@
--- Each wrong core differs from ours at some event, and so does not meet the demands.
+-- Each wrong core differs from ours at some event, in what the demand beside it fixes.
 use Prim.Native.Nat.{ℕ}
 use mathlib.Core.List.{List, [], _∷_}
-use mathlib.Core.Bool.{Bool, true, false, true≢false}
+use mathlib.Core.Bool.{Bool, true, false}
 use mathlib.Core.Path.{_≡_, refl, sym, _∙_, ap}
 use native.Mathlib.Omega.{arith}
 use Rattle.cause.specs.declared.Cause.{Cause}
 use Rattle.rights.specs.declared.Rights.{Rights}
 use Rattle.services.specs.declared.Answers.{Answers}
 use Rattle.services.specs.declared.Given.{Given}
+use Rattle.services.specs.declared.Request.{Request}
 use Rattle.services.specs.declared.Said.{Said}
 use Rattle.services.specs.declared.Standing.{Standing}
 use Rattle.facility_rules.specs.declared.What.{What}
 use Rattle.flow_meter.specs.declared.Meter.{Meter}
 use Rattle.phases.specs.declared.Phase.{Phase}
+use Rattle.answer.specs.Answer.{numberOf}
 use Rattle.sent.specs.declared.Sent.{Sent}
 use Rattle.sent.specs.declared.side.Side.{Side}
 use Rattle.call.specs.declared.Call.{Call}
@@ -42,11 +44,11 @@ use Rattle.call.specs.Facility.{facilityVerdictOf, facilityCallOf, passesFacili
 use Rattle.call.specs.Tick.{runsOf, passesTickOf, tickOf}
 use Rattle.call.specs.Disconnect.{endsOf, releaseCompleteOf}
 use Rattle.call_promises.specs.Numbers.{Core}
-use Rattle.call_cases.specs.ShutOut.{refuses, fixed, mute, nods}
-use Rattle.call_cases.proofs.ShutOut.{shut-out}
-use Rattle.demands.specs.Demands.{Demands}
-use Rattle.demands.specs.WrongCores.{but, opensBoth, keepsMarks, keepsOpen, creditsOne, never29, blamesCalled, leavesAsking, invents, mumbles, returns, forgetsThree, leavesElement, WrongCores}
-use Rattle.demands.proofs.Decided.{decided}
+use Rattle.call_promises.specs.Refusals.{sentTo}
+use Rattle.call_promises.specs.Sends.{SendsExactly}
+use Rattle.call_promises.specs.Becomes.{BecomesExactly}
+use Rattle.demands.specs.WrongCores.{refuses, fixed, mute, nods, but, opensBoth, keepsMarks, keepsOpen, creditsOne, never29, never31, leavesAsking, invents, mumbles, returns, forgetsThree, leavesElement, WrongCores}
+use Rattle.demands.proofs.Decided.{same-record, same-numbers, same-messages}
 
 -- a call with every right, in some phase, with services and marks as they may be
 abbrev every : Rights
@@ -74,6 +76,10 @@ abbrev cue : List ℕ
 cue = 126 ∷ 1 ∷ 0 ∷ []
 
 -- what can be looked at in a reply
+abbrev bit : Bool → ℕ
+bit false = 0
+bit true = 1
+
 abbrev from : Cause → ℕ
 from Cause.Absent = 128
 from (Cause.Value n) = n
@@ -82,32 +88,40 @@ abbrev causeIn : Sent → ℕ
 causeIn Sent.Absent = 200
 causeIn (Sent.Present m) = from (m .cause)
 
-abbrev threeIn : Sent → Said
-threeIn Sent.Absent = Said.Nothing
-threeIn (Sent.Present m) = m .said .three
+abbrev asksThree : Said → ℕ
+asksThree Said.Nothing = 0
+asksThree Said.Preferred = 1
+asksThree Said.Required = 0
+asksThree Said.Accepted = 0
+asksThree Said.ByUser = 0
+asksThree Said.ByNetwork = 0
 
-abbrev elementIn : Sent → Bool
-elementIn Sent.Absent = false
-elementIn (Sent.Present m) = m .element
+abbrev threeIn : Sent → ℕ
+threeIn Sent.Absent = 0
+threeIn (Sent.Present m) = asksThree (m .said .three)
 
-abbrev isSent : Sent → Bool
-isSent Sent.Absent = false
-isSent (Sent.Present m) = true
+abbrev elementIn : Sent → ℕ
+elementIn Sent.Absent = 0
+elementIn (Sent.Present m) = bit (m .element)
 
-abbrev isPreferred : Said → Bool
-isPreferred Said.Nothing = false
-isPreferred Said.Preferred = true
-isPreferred Said.Required = false
-isPreferred Said.Accepted = false
-isPreferred Said.ByUser = false
-isPreferred Said.ByNetwork = false
+abbrev isSent : Sent → ℕ
+isSent Sent.Absent = 0
+isSent (Sent.Present m) = 1
 
-abbrev isClosed : Standing → Bool
-isClosed Standing.Unasked = false
-isClosed Standing.Preferred = false
-isClosed Standing.Required = false
-isClosed Standing.InForce = false
-isClosed Standing.Closed = true
+abbrev isClosed : Standing → ℕ
+isClosed Standing.Unasked = 0
+isClosed Standing.Preferred = 0
+isClosed Standing.Required = 0
+isClosed Standing.InForce = 0
+isClosed Standing.Closed = 1
+
+abbrev isUp : Phase → ℕ
+isUp Phase.Fresh = 0
+isUp Phase.Requested = 1
+isUp Phase.Alerting = 1
+isUp Phase.Active = 1
+isUp Phase.Clearing = 0
+isUp Phase.Ended = 0
 
 -- an event with its element, at a call
 record Trial : Type 0 where
@@ -123,6 +137,18 @@ ours t = stepOf (t .call) (t .event) (t .element)
 
 abbrev theirs : (Call → Reply → Reply) → Trial → Reply
 theirs g t = but g (t .call) (t .event) (t .element)
+
+-- a SETUP that asks for nothing, and a tick, at a fresh record
+abbrev opened : Trial
+opened =
+    record {
+      call = freshCall;
+      event = Event.Setup 5 every (record { one = Request.Unasked; two = Request.Unasked; three = Request.Unasked });
+      element = [];
+    }
+
+abbrev early : Trial
+early = record { call = freshCall; event = Event.Tick; element = [] }
 
 abbrev asked : Trial
 asked = at Phase.Active Standing.Unasked Standing.Unasked false (Event.Facility Side.Calling What.Preferred) []
@@ -167,23 +193,35 @@ cleared = at Phase.Active Standing.InForce Standing.Unasked false (Event.Disconn
 
 -- what the replies of our core and of a wrong one show there
 record Facts : Type 0 where
-  asks : (ours asked .call .asking .called ≡ false) × (theirs opensBoth asked .call .asking .called ≡ true)
-  agrees : (ours agreed .call .asking .calling ≡ false) × (theirs leavesAsking agreed .call .asking .calling ≡ true)
-  ticks : (ours ticked .call .meters .calling .mark ≡ false) × (theirs keepsMarks ticked .call .meters .calling .mark ≡ true)
-  closes : (isClosed (ours unanswered .call .standings .one) ≡ true) × (isClosed (theirs keepsOpen unanswered .call .standings .one) ≡ false)
+  before : isUp (freshCall .phase) ≡ 0
+  opens : isUp (ours opened .call .phase) ≡ 1
+  proceeds : isSent (ours opened .calling) ≡ 1
+  taken : numberOf (ours opened .answer) ≡ 0
+  barred : numberOf (ours early .answer) ≡ 11
+  ends : isUp (ours released .call .phase) ≡ 0
+  asks : (bit (ours asked .call .asking .called) ≡ 0) × (bit (theirs opensBoth asked .call .asking .called) ≡ 1)
+  agrees : (bit (ours agreed .call .asking .calling) ≡ 0) × (bit (theirs leavesAsking agreed .call .asking .calling) ≡ 1)
+  ticks : (bit (ours ticked .call .meters .calling .mark) ≡ 0) × (bit (theirs keepsMarks ticked .call .meters .calling .mark) ≡ 1)
+  closes : (isClosed (ours unanswered .call .standings .one) ≡ 1) × (isClosed (theirs keepsOpen unanswered .call .standings .one) ≡ 0)
   credits : (ours accepted .call .meters .called .credit ≡ 2) × (theirs creditsOne accepted .call .meters .called .credit ≡ 0)
   fills : (ours ticked .call .meters .calling .credit ≡ 1) × (theirs invents ticked .call .meters .calling .credit ≡ 2)
   blames : (causeIn (ours rejected .calling) ≡ 29) × (causeIn (theirs never29 rejected .calling) ≡ 69)
-  clears : (causeIn (ours rejected .called) ≡ 31) × (causeIn (theirs blamesCalled rejected .called) ≡ 69)
+  clears : (causeIn (ours rejected .called) ≡ 31) × (causeIn (theirs never31 rejected .called) ≡ 69)
   warns : (causeIn (ours unpaid .calling) ≡ 43) × (causeIn (theirs mumbles unpaid .calling) ≡ 128)
-  releases : (isSent (ours released .called) ≡ true) × (isSent (theirs returns released .called) ≡ false)
-  passes : (isPreferred (threeIn (ours asked .called)) ≡ true) × (isPreferred (threeIn (theirs forgetsThree asked .called)) ≡ false)
-  rides : (elementIn (ours cleared .called) ≡ true) × (elementIn (theirs leavesElement cleared .called) ≡ false)
+  releases : (isSent (ours released .called) ≡ 1) × (isSent (theirs returns released .called) ≡ 0)
+  passes : (threeIn (ours asked .called) ≡ 1) × (threeIn (theirs forgetsThree asked .called) ≡ 0)
+  rides : (elementIn (ours cleared .called) ≡ 1) × (elementIn (theirs leavesElement cleared .called) ≡ 0)
 
 facts : Facts
 unfolding emptyOf meterFitsOf grantedOf countedOf paidOf markedOf underThreeOf passageOf wellFormedOf seenOf goesOutOf rightsFitOf referenceFitsOf remainsOf firstStandingOf standingsOf lacksOf passedRequestsOf networkRefusalsOf failedOf settlesOf tellsOf declinesOf silence nobodyAsks sayingOf bareOf congestionOf informsOf onlyIfOf noRights noServices emptyMeters freshCall fieldsFitOf soundOf inPhaseOf barOf refusedOf heardOf replyOf setupPhaseOf filledOf toCallerOf toCalledOf setupCarriesOf proceedsOf setupOf grantsOf answeredCallOf goesOnOf clearsOf alertingFatesOf connectFatesOf answeredOf alertingOf connectOf metersOf informationPassageOf carriedOf withElementOf informationOf refilledOf tickedOf toRequestOf toAnswerOf silentAnswers closingFacilitiesOf closedCallOf passedOnOf disconnectOf facilityVerdictOf facilityCallOf aboutThreeOf passesFacilityOf facilityOf tickedMetersOf refillsOf readyOf runsOf passesTickOf tickOf releaseCompleteOf endsOf
 facts =
     record {
+      before = refl;
+      opens = refl;
+      proceeds = refl;
+      taken = refl;
+      barred = refl;
+      ends = refl;
       asks = (refl, refl);
       agrees = (refl, refl);
       ticks = (refl, refl);
@@ -198,33 +236,32 @@ facts =
       rides = (refl, refl);
     }
 
--- a core that shows something else at one event is not ours
-differs : (g : Call → Reply → Reply) (t : Trial) (h : Reply → Bool) → h (ours t) ≡ false → h (theirs g t) ≡ true → Demands (but g) → ⊥
-differs g t h p q d = true≢false (sym q ∙ ap h (decided (but g) d (t .call) (t .event) (t .element)) ∙ p)
+-- a core whose record, or whose message, shows something else at one event
+by-record : (f : Core) (t : Trial) (look : Call → ℕ) (m n : ℕ) → look (ours t .call) ≡ m → look (f (t .call) (t .event) (t .element) .call) ≡ n → (m ≡ n → ⊥) → BecomesExactly f → ⊥
+by-record f t look m n p q x d = x (sym p ∙ sym (ap look (same-record f d (t .call) (t .event) (t .element))) ∙ q)
 
-lacks : (g : Call → Reply → Reply) (t : Trial) (h : Reply → Bool) → h (ours t) ≡ true → h (theirs g t) ≡ false → Demands (but g) → ⊥
-lacks g t h p q d = true≢false (sym p ∙ sym (ap h (decided (but g) d (t .call) (t .event) (t .element))) ∙ q)
-
-counts : (g : Call → Reply → Reply) (t : Trial) (h : Reply → ℕ) (m n : ℕ) → h (ours t) ≡ m → h (theirs g t) ≡ n → (m ≡ n → ⊥) → Demands (but g) → ⊥
-counts g t h m n p q x d = x (sym p ∙ sym (ap h (decided (but g) d (t .call) (t .event) (t .element))) ∙ q)
+by-message : (f : Core) (t : Trial) (side : Side) (look : Sent → ℕ) (m n : ℕ) → look (sentTo (ours t) side) ≡ m → look (sentTo (f (t .call) (t .event) (t .element)) side) ≡ n → (m ≡ n → ⊥) → SendsExactly f → ⊥
+by-message f t side look m n p q x d = x (sym p ∙ sym (ap look (same-messages f d (t .call) (t .event) (t .element) side)) ∙ q)
 
 pub wrong-cores : WrongCores
 wrong-cores =
     record {
-      refusing = λ a d. shut-out .refusing a (decided (refuses a) d);
-      fixing = λ r d. shut-out .fixing r (decided (fixed r) d);
-      muting = λ f d. shut-out .muting f (decided (mute f) d);
-      nodding = λ f d. shut-out .nodding f (decided (nods f) d);
-      openingBoth = differs opensBoth asked (λ r. r .call .asking .called) (facts .asks .0) (facts .asks .1);
-      leavingOpen = differs leavesAsking agreed (λ r. r .call .asking .calling) (facts .agrees .0) (facts .agrees .1);
-      keepingMarks = differs keepsMarks ticked (λ r. r .call .meters .calling .mark) (facts .ticks .0) (facts .ticks .1);
-      keepingOpen = lacks keepsOpen unanswered (λ r. isClosed (r .call .standings .one)) (facts .closes .0) (facts .closes .1);
-      creditingOne = counts creditsOne accepted (λ r. r .call .meters .called .credit) 2 0 (facts .credits .0) (facts .credits .1) (omega arith);
-      inventing = counts invents ticked (λ r. r .call .meters .calling .credit) 1 2 (facts .fills .0) (facts .fills .1) (omega arith);
-      neverRejecting = counts never29 rejected (λ r. causeIn (r .calling)) 29 69 (facts .blames .0) (facts .blames .1) (omega arith);
-      blaming = counts blamesCalled rejected (λ r. causeIn (r .called)) 31 69 (facts .clears .0) (facts .clears .1) (omega arith);
-      mumbling = counts mumbles unpaid (λ r. causeIn (r .calling)) 43 128 (facts .warns .0) (facts .warns .1) (omega arith);
-      returning = lacks returns released (λ r. isSent (r .called)) (facts .releases .0) (facts .releases .1);
-      forgetting = lacks forgetsThree asked (λ r. isPreferred (threeIn (r .called))) (facts .passes .0) (facts .passes .1);
-      leaving = lacks leavesElement cleared (λ r. elementIn (r .called)) (facts .rides .0) (facts .rides .1);
+      refusing = λ a. by-record (refuses a) opened (λ c. isUp (c .phase)) 1 0 (facts .opens) (facts .before) (omega arith);
+      fixing = λ r d.
+          let p = same-numbers (fixed r) d (opened .call) (opened .event) (opened .element) ∙ facts .taken in
+          let q = same-numbers (fixed r) d (early .call) (early .event) (early .element) ∙ facts .barred in omega arith;
+      muting = λ f. by-message (mute f) opened Side.Calling isSent 1 0 (facts .proceeds) refl (omega arith);
+      nodding = λ f. by-record (nods f) released (λ c. isUp (c .phase)) 0 1 (facts .ends) refl (omega arith);
+      openingBoth = by-record (but opensBoth) asked (λ c. bit (c .asking .called)) 0 1 (facts .asks .0) (facts .asks .1) (omega arith);
+      leavingOpen = by-record (but leavesAsking) agreed (λ c. bit (c .asking .calling)) 0 1 (facts .agrees .0) (facts .agrees .1) (omega arith);
+      keepingMarks = by-record (but keepsMarks) ticked (λ c. bit (c .meters .calling .mark)) 0 1 (facts .ticks .0) (facts .ticks .1) (omega arith);
+      keepingOpen = by-record (but keepsOpen) unanswered (λ c. isClosed (c .standings .one)) 1 0 (facts .closes .0) (facts .closes .1) (omega arith);
+      creditingOne = by-record (but creditsOne) accepted (λ c. c .meters .called .credit) 2 0 (facts .credits .0) (facts .credits .1) (omega arith);
+      inventing = by-record (but invents) ticked (λ c. c .meters .calling .credit) 1 2 (facts .fills .0) (facts .fills .1) (omega arith);
+      neverRejecting = by-message (but never29) rejected Side.Calling causeIn 29 69 (facts .blames .0) (facts .blames .1) (omega arith);
+      blaming = by-message (but never31) rejected Side.Called causeIn 31 69 (facts .clears .0) (facts .clears .1) (omega arith);
+      mumbling = by-message (but mumbles) unpaid Side.Calling causeIn 43 128 (facts .warns .0) (facts .warns .1) (omega arith);
+      returning = by-message (but returns) released Side.Called isSent 1 0 (facts .releases .0) (facts .releases .1) (omega arith);
+      forgetting = by-message (but forgetsThree) asked Side.Called threeIn 1 0 (facts .passes .0) (facts .passes .1) (omega arith);
+      leaving = by-message (but leavesElement) cleared Side.Called elementIn 1 0 (facts .rides .0) (facts .rides .1) (omega arith);
     }

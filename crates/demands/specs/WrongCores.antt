@@ -1,6 +1,6 @@
--- Cores that are no core of ours: those that the paper names, "always refuses, has one fixed reply, sends nothing, or
--- handles only SETUP and nods later"; and ours with its replies changed, so that the rule named is broken (by some of
--- them another besides: what is changed is the reply, whatever the event was).
+-- Cores that are no core of ours, each with the demand that it does not meet: those that the paper names, "always refuses,
+-- has one fixed reply, sends nothing, or handles only SETUP and nods later"; and ours with its replies changed, so that the
+-- rule named is broken (by some of them another besides: what is changed is the reply, whatever the event was).
 use Prim.Native.Nat.{ℕ, _+_}
 use mathlib.Core.List.{List}
 use mathlib.Core.Bool.{Bool, true, false, cond, _&&_, _||_}
@@ -8,8 +8,12 @@ use lib.Dec.{eqb, ltb}
 use Rattle.cause.specs.declared.Cause.{Cause}
 use Rattle.services.specs.declared.Said.{Said}
 use Rattle.services.specs.declared.Standing.{Standing}
+use Rattle.services.specs.declared.Standings.{Standings}
+use Rattle.facility_rules.specs.declared.Asking.{Asking}
+use Rattle.user_element.specs.declared.Note.{Note}
 use Rattle.answer.specs.declared.Answer.{Answer}
 use Rattle.flow_meter.specs.declared.Meter.{Meter}
+use Rattle.flow_meter.specs.declared.call_meters.Meters.{Meters}
 use Rattle.sent.specs.declared.Message.{Message}
 use Rattle.sent.specs.declared.Sent.{Sent}
 use Rattle.message_types.specs.Kind.{kindOctet}
@@ -17,53 +21,80 @@ use Rattle.call.specs.declared.Call.{Call}
 use Rattle.call.specs.declared.reply.Reply.{Reply}
 use Rattle.event.specs.declared.Event.{Event}
 use Rattle.call.specs.Step.{stepOf}
-use Rattle.call_promises.specs.Numbers.{Core}
-use Rattle.call_cases.specs.ShutOut.{refuses, fixed, mute, nods}
-use Rattle.demands.specs.Demands.{Demands}
+use Rattle.call_promises.specs.Numbers.{Core, AnswersExactly}
+use Rattle.call_promises.specs.Sends.{SendsExactly}
+use Rattle.call_promises.specs.Becomes.{BecomesExactly, altered}
 
--- our core, with its reply changed afterwards
-abbrev pub but : (Call → Reply → Reply) → Core
-but g c e l = g c (stepOf c e l)
+-- leaves the record and sends nothing
+abbrev pub idle : Call → Answer → Reply
+idle c a = record { call = c; answer = a; note = Note.Clear; calling = Sent.Absent; called = Sent.Absent }
 
-abbrev pub withCall : Reply → Call → Reply
-withCall r c = record { call = c; answer = r .answer; note = r .note; calling = r .calling; called = r .called }
+-- is idle at every event, with any answers
+abbrev pub refuses : (Call → Event → List ℕ → Answer) → Core
+refuses a c e l = idle c (a c e l)
+
+abbrev pub fixed : Reply → Core
+fixed r c e l = r
 
 abbrev pub withSent : Reply → Sent → Sent → Reply
 withSent r calling called =
     record { call = r .call; answer = r .answer; note = r .note; calling = calling; called = called }
 
-abbrev pub inEach : (Message → Message) → Sent → Sent
-inEach g Sent.Absent = Sent.Absent
-inEach g (Sent.Present m) = Sent.Present (g m)
+-- does what a core does, but for its messages
+abbrev pub mute : Core → Core
+mute f c e l = withSent (f c e l) Sent.Absent Sent.Absent
+
+-- does what a core does at SETUP, and later answers 0 and does nothing
+abbrev pub nods : Core → Core
+nods f c (Event.Setup reference rights requests) l = f c (Event.Setup reference rights requests) l
+nods f c (Event.Alerting answers) l = idle c Answer.Taken
+nods f c (Event.Connect answers) l = idle c Answer.Taken
+nods f c (Event.Information side more) l = idle c Answer.Taken
+nods f c (Event.Facility side what) l = idle c Answer.Taken
+nods f c (Event.Disconnect side cause answers) l = idle c Answer.Taken
+nods f c (Event.ReleaseComplete side) l = idle c Answer.Taken
+nods f c Event.Tick l = idle c Answer.Taken
+nods f c Event.CallProceeding l = idle c Answer.Taken
+nods f c Event.CongestionControl l = idle c Answer.Taken
+
+-- our core, with its reply changed afterwards
+abbrev pub but : (Call → Reply → Reply) → Core
+but g c e l = g c (stepOf c e l)
+
+-- the reply with other services, requests and meters in its record
+abbrev pub holding : Reply → Standings → Asking → Meters → Reply
+holding r standings asking meters =
+    record {
+      call = altered (r .call) (r .call .phase) standings asking meters;
+      answer = r .answer;
+      note = r .note;
+      calling = r .calling;
+      called = r .called;
+    }
+
+abbrev pub askingBut : Reply → Asking → Reply
+askingBut r asking = holding r (r .call .standings) asking (r .call .meters)
+
+abbrev pub metersBut : Reply → Meter → Meter → Reply
+metersBut r calling called =
+    holding r (r .call .standings) (r .call .asking) (record { calling = calling; called = called })
+
+abbrev pub withCredit : Meter → ℕ → Meter
+withCredit m n = record { credit = n; mark = m .mark; count = m .count }
 
 -- a request of the calling side opens both, so that it can accept its own
 abbrev pub opensBoth : Call → Reply → Reply
 opensBoth c r =
-    withCall r
-    (record {
-      reference = r .call .reference;
-      rights = r .call .rights;
-      phase = r .call .phase;
-      standings = r .call .standings;
-      asking = record { calling = r .call .asking .calling; called = r .call .asking .calling || r .call .asking .called };
-      meters = r .call .meters;
-    })
+    askingBut r
+    (record { calling = r .call .asking .calling; called = r .call .asking .calling || r .call .asking .called })
 
 -- a request that is answered stays open
 abbrev pub leavesAsking : Call → Reply → Reply
 leavesAsking c r =
-    withCall r
+    askingBut r
     (record {
-      reference = r .call .reference;
-      rights = r .call .rights;
-      phase = r .call .phase;
-      standings = r .call .standings;
-      asking =
-          record {
-            calling = c .asking .calling || r .call .asking .calling;
-            called = c .asking .called || r .call .asking .called;
-          };
-      meters = r .call .meters;
+      calling = c .asking .calling || r .call .asking .calling;
+      called = c .asking .called || r .call .asking .called;
     })
 
 -- a mark that is set stays, so that every tick sends ready
@@ -72,19 +103,7 @@ keepsMark m n = record { credit = n .credit; mark = m .mark || n .mark; count = 
 
 abbrev pub keepsMarks : Call → Reply → Reply
 keepsMarks c r =
-    withCall r
-    (record {
-      reference = r .call .reference;
-      rights = r .call .rights;
-      phase = r .call .phase;
-      standings = r .call .standings;
-      asking = r .call .asking;
-      meters =
-          record {
-            calling = keepsMark (c .meters .calling) (r .call .meters .calling);
-            called = keepsMark (c .meters .called) (r .call .meters .called);
-          };
-    })
+    metersBut r (keepsMark (c .meters .calling) (r .call .meters .calling)) (keepsMark (c .meters .called) (r .call .meters .called))
 
 -- service 1, preferred and not accepted, stays open, and a later DISCONNECT revives it
 abbrev pub stays : Standing → Standing → Standing
@@ -100,84 +119,48 @@ stays Standing.Closed t = t
 
 abbrev pub keepsOpen : Call → Reply → Reply
 keepsOpen c r =
-    withCall r
+    holding r
     (record {
-      reference = r .call .reference;
-      rights = r .call .rights;
-      phase = r .call .phase;
-      standings =
-          record {
-            one = stays (c .standings .one) (r .call .standings .one);
-            two = r .call .standings .two;
-            three = r .call .standings .three;
-          };
-      asking = r .call .asking;
-      meters = r .call .meters;
+      one = stays (c .standings .one) (r .call .standings .one);
+      two = r .call .standings .two;
+      three = r .call .standings .three;
     })
+    (r .call .asking) (r .call .meters)
 
 -- credit is given to the calling direction alone
+abbrev pub smaller : ℕ → ℕ → ℕ
+smaller m n = cond (ltb m n) m n
+
 abbrev pub creditsOne : Call → Reply → Reply
 creditsOne c r =
-    withCall r
-    (record {
-      reference = r .call .reference;
-      rights = r .call .rights;
-      phase = r .call .phase;
-      standings = r .call .standings;
-      asking = r .call .asking;
-      meters =
-          record {
-            calling = r .call .meters .calling;
-            called =
-                record {
-                  credit = cond (ltb (c .meters .called .credit) (r .call .meters .called .credit)) (c .meters .called .credit) (r .call .meters .called .credit);
-                  mark = r .call .meters .called .mark;
-                  count = r .call .meters .called .count;
-                };
-          };
-    })
+    metersBut r (r .call .meters .calling)
+    (withCredit (r .call .meters .called) (smaller (c .meters .called .credit) (r .call .meters .called .credit)))
 
 -- every event gives the calling direction a credit
 abbrev pub invents : Call → Reply → Reply
 invents c r =
-    withCall r
-    (record {
-      reference = r .call .reference;
-      rights = r .call .rights;
-      phase = r .call .phase;
-      standings = r .call .standings;
-      asking = r .call .asking;
-      meters =
-          record {
-            calling =
-                record {
-                  credit = r .call .meters .calling .credit + 1;
-                  mark = r .call .meters .calling .mark;
-                  count = r .call .meters .calling .count;
-                };
-            called = r .call .meters .called;
-          };
-    })
+    metersBut r (withCredit (r .call .meters .calling) (r .call .meters .calling .credit + 1)) (r .call .meters .called)
+
+-- messages with something changed in each
+abbrev pub inEach : (Message → Message) → Sent → Sent
+inEach g Sent.Absent = Sent.Absent
+inEach g (Sent.Present m) = Sent.Present (g m)
 
 abbrev pub withCause : Message → Cause → Message
 withCause m cause =
     record { kind = m .kind; cause = cause; level = m .level; said = m .said; more = m .more; element = m .element }
 
--- nobody hears cause 29: an explicit rejection gives 69
-abbrev pub sixtyNine : Cause → Cause
-sixtyNine Cause.Absent = Cause.Absent
-sixtyNine (Cause.Value n) = Cause.Value (cond (eqb n 29) 69 n)
+abbrev pub sixtyNineFor : ℕ → Cause → Cause
+sixtyNineFor k Cause.Absent = Cause.Absent
+sixtyNineFor k (Cause.Value n) = Cause.Value (cond (eqb n k) 69 n)
 
+-- the caller never hears 29: an explicit rejection gives 69
 abbrev pub never29 : Call → Reply → Reply
-never29 c r = withSent r (inEach (λ m. withCause m (sixtyNine (m .cause))) (r .calling)) (r .called)
+never29 c r = withSent r (inEach (λ m. withCause m (sixtyNineFor 29 (m .cause))) (r .calling)) (r .called)
 
 -- the called user never hears 31: where a required service fails it hears 69
-abbrev pub never31 : Cause → Cause
-never31 Cause.Absent = Cause.Absent
-never31 (Cause.Value n) = Cause.Value (cond (eqb n 31) 69 n)
-
-abbrev pub blamesCalled : Call → Reply → Reply
-blamesCalled c r = withSent r (r .calling) (inEach (λ m. withCause m (never31 (m .cause))) (r .called))
+abbrev pub never31 : Call → Reply → Reply
+never31 c r = withSent r (r .calling) (inEach (λ m. withCause m (sixtyNineFor 31 (m .cause))) (r .called))
 
 -- congestion is told without its cause
 abbrev pub causeless : Message → Message
@@ -222,21 +205,21 @@ withoutElement m =
 abbrev pub leavesElement : Call → Reply → Reply
 leavesElement c r = withSent r (inEach withoutElement (r .calling)) (inEach withoutElement (r .called))
 
--- SHUT OUT. None of these meets the demands.
+-- SHUT OUT. None of these meets the demand that stands beside it.
 pub record WrongCores : Type 0 where
-  pub refusing : (a : Call → Event → List ℕ → Answer) → Demands (refuses a) → ⊥
-  pub fixing : (r : Reply) → Demands (fixed r) → ⊥
-  pub muting : (f : Core) → Demands (mute f) → ⊥
-  pub nodding : (f : Core) → Demands (nods f) → ⊥
-  pub openingBoth : Demands (but opensBoth) → ⊥
-  pub leavingOpen : Demands (but leavesAsking) → ⊥
-  pub keepingMarks : Demands (but keepsMarks) → ⊥
-  pub keepingOpen : Demands (but keepsOpen) → ⊥
-  pub creditingOne : Demands (but creditsOne) → ⊥
-  pub inventing : Demands (but invents) → ⊥
-  pub neverRejecting : Demands (but never29) → ⊥
-  pub blaming : Demands (but blamesCalled) → ⊥
-  pub mumbling : Demands (but mumbles) → ⊥
-  pub returning : Demands (but returns) → ⊥
-  pub forgetting : Demands (but forgetsThree) → ⊥
-  pub leaving : Demands (but leavesElement) → ⊥
+  pub refusing : (a : Call → Event → List ℕ → Answer) → BecomesExactly (refuses a) → ⊥
+  pub fixing : (r : Reply) → AnswersExactly (fixed r) → ⊥
+  pub muting : (f : Core) → SendsExactly (mute f) → ⊥
+  pub nodding : (f : Core) → BecomesExactly (nods f) → ⊥
+  pub openingBoth : BecomesExactly (but opensBoth) → ⊥
+  pub leavingOpen : BecomesExactly (but leavesAsking) → ⊥
+  pub keepingMarks : BecomesExactly (but keepsMarks) → ⊥
+  pub keepingOpen : BecomesExactly (but keepsOpen) → ⊥
+  pub creditingOne : BecomesExactly (but creditsOne) → ⊥
+  pub inventing : BecomesExactly (but invents) → ⊥
+  pub neverRejecting : SendsExactly (but never29) → ⊥
+  pub blaming : SendsExactly (but never31) → ⊥
+  pub mumbling : SendsExactly (but mumbles) → ⊥
+  pub returning : SendsExactly (but returns) → ⊥
+  pub forgetting : SendsExactly (but forgetsThree) → ⊥
+  pub leaving : SendsExactly (but leavesElement) → ⊥

@@ -1,13 +1,12 @@
--- Instances of the promises on handling, and the cores shut out, computed.
+-- Instances of the promises on handling, computed.
 use Prim.Native.Nat.{ℕ}
 use mathlib.Core.List.{[]}
 use mathlib.Core.Logic.{inl}
-use mathlib.Core.Path.{_≡_, refl, ap, sym, _∙_}
+use mathlib.Core.Path.{_≡_, refl}
 use native.Mathlib.Omega.{arith}
 use Rattle.rights.specs.declared.Service.{Service}
 use Rattle.services.specs.declared.Given.{Given}
 use Rattle.services.specs.declared.Standing.{Standing}
-use Rattle.sent.specs.declared.Sent.{Sent}
 use Rattle.phases.specs.declared.Phase.{Phase}
 use Rattle.event.specs.declared.Event.{Event}
 use Rattle.call.specs.declared.reply.Reply.{Reply}
@@ -39,23 +38,14 @@ use Rattle.call_promises.specs.Sound.{runOf}
 use Rattle.call_cases.specs.Cases.{silent}
 use Rattle.call_promises.specs.Services.{standingFor, Taken, Requires, asked, alerting}
 use Rattle.call_cases.specs.Handed.{opening, connected, agreed, ElementsHanded, ServicesHeld}
-use Rattle.call_cases.specs.ShutOut.{ShutOut}
 
 -- what is computed, all under one line that opens the definitions
 abbrev opened : Reply
 opened = stepOf freshCall (opening .event) (opening .element)
 
-abbrev presentOf : Sent → ℕ
-presentOf Sent.Absent = 0
-presentOf (Sent.Present m) = 1
-
 record Facts : Type 0 where
   handed : ElementsHanded
   taken : numberOf (opened .answer) ≡ 0
-  barred : numberOf (stepOf freshCall Event.Tick [] .answer) ≡ 11
-  sends : presentOf (opened .calling) ≡ 1
-  fresh : freshCall .phase ≡ Phase.Fresh
-  requested : opened .call .phase ≡ Phase.Requested
   required : opened .call .standings .one ≡ Standing.Required
   active : runOf stepOf freshCall connected .phase ≡ Phase.Active
   one : InForce (runOf stepOf freshCall connected .standings .one)
@@ -71,10 +61,6 @@ facts =
     record {
       handed = (refl, (refl, (refl, (refl, (refl, (refl, (refl, (refl, (refl, (refl, tt))))))))));
       taken = refl;
-      barred = refl;
-      sends = refl;
-      fresh = refl;
-      requested = refl;
       required = refl;
       active = refl;
       one = refl;
@@ -112,22 +98,4 @@ held =
       taken = facts .answered;
       failing = alerting (inl (facts .required, unanswered));
       clearing = facts .clearing;
-    }
-
-pub shut-out : ShutOut
-shut-out =
-    record {
-      refusing = λ a m.
-          let p = sym (facts .fresh) ∙ (ap (λ (r : Reply). r .call .phase) (m freshCall (opening .event) (opening .element)) ∙ facts .requested) in
-          let z : _≡_ {A = ℕ} 0 1 = cc in omega arith;
-      fixing = λ r m.
-          let p = ap (λ (r : Reply). numberOf (r .answer)) (m freshCall (opening .event) (opening .element)) ∙ facts .taken in
-          let q = ap (λ (r : Reply). numberOf (r .answer)) (m freshCall Event.Tick []) ∙ facts .barred in omega arith;
-      muting = λ f m.
-          let p = ap (λ (r : Reply). presentOf (r .calling)) (m freshCall (opening .event) (opening .element)) ∙ facts .sends in omega arith;
-      nodding = λ f m.
-          let p =
-          sym (facts .requested)
-          ∙ (ap (λ (r : Reply). r .call .phase) (m (opened .call) (Event.Alerting silent) []) ∙ facts .clearing) in
-          let z : _≡_ {A = ℕ} 0 1 = cc in omega arith;
     }
