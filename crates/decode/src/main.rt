@@ -19,7 +19,8 @@ struct Held {
     ended: bool,
 }
 
-// What is held goes to the buffer's front, and more is read after it. Nothing more comes at the capture's end.
+// What is held goes to the buffer's front, and more is read after it. Nothing more comes at the capture's end, nor
+// after a read that failed; only at the end is what is left known to be cut.
 fn refill(buf: &mut [u8], from: usize, to: usize, offset: u64) -> Held {
     let f = fetch(buf, from, to);
     Held {
@@ -27,7 +28,7 @@ fn refill(buf: &mut [u8], from: usize, to: usize, offset: u64) -> Held {
         to: f.to,
         offset: offset,
         more: f.came,
-        ended: !f.came,
+        ended: !f.came & !f.failed,
     }
 }
 
@@ -51,17 +52,17 @@ fn turn(buf: &mut [u8], out: &mut [u8], h: Held) -> Held {
     }
 }
 
-fn step(buf: &mut [u8; 262144], out: &mut [u8; 262144], h: Held) -> Held {
+fn step(buf: &mut [u8; 131072], out: &mut [u8; 131072], h: Held) -> Held {
     turn(buf, out, h)
 }
 
-fn first(out: &mut [u8; 262144]) -> bool {
+fn first(out: &mut [u8; 131072]) -> bool {
     let n = end_of(write_first(out, 0));
     send(out, n)
 }
 
-// After a failure of standard output nothing more is written.
-fn last(out: &mut [u8; 262144], ended: bool, left: usize) -> bool {
+// After a failure of standard input or output nothing more is written.
+fn last(out: &mut [u8; 131072], ended: bool, left: usize) -> bool {
     if !ended {
         return false;
     }
@@ -70,8 +71,8 @@ fn last(out: &mut [u8; 262144], ended: bool, left: usize) -> bool {
 }
 
 fn main() {
-    let mut buf = [0u8; 262144];
-    let mut out = [0u8; 262144];
+    let mut buf = [0u8; 131072];
+    let mut out = [0u8; 131072];
     let mut h = Held {
         from: 0,
         to: 0,

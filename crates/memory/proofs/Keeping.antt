@@ -6,7 +6,7 @@ use native.Mathlib.Omega.{arith}
 use native.Mathlib.Nat.{zero-add}
 use native.Mathlib.Numerals.{add-one}
 use borrow.Author.Tests.{le-leb, lt-leb}
-use lib.ListN.{length, getD, take, drop, set, length-set, length-drop}
+use lib.ListN.{length, getD, take, drop, set, length-set, length-drop, take-append-drop}
 use lib.Seq.{paste, paste-zero, paste-suc, drop-paste, getD-drop, length-take-le}
 use Rattle.memory.specs.Room.{placed, keptOf, Kept}
 use Rattle.memory.proofs.Pieces.{no-put}
@@ -27,6 +27,17 @@ crossed {from} {to} h = none-kept (simp (lt-leb from to h))
 pub outside : {from to : ℕ} {l : List ℕ} → from ≤ to → length l < to → Kept from to l l 0
 unfolding keptOf
 outside {from} {to} {l} h k = none-kept (simp (le-leb from to h, lt-leb to (length l) k))
+
+-- those that stand at the front already
+front-kept : (to : ℕ) (l : List ℕ) → to ≤ length l → keptOf 0 to l ≡ take to l
+unfolding keptOf
+front-kept to l k = let e : to - 0 ≡ to = omega arith in rw (le-leb 0 to (omega arith), le-leb to (length l) k, e) refl
+
+pub stays : {from to : ℕ} {l : List ℕ} → from ≡ 0 → to ≤ length l → Kept from to l l to
+unfolding placed
+stays {from} {to} {l} z k =
+    let n = length-take-le to l k in
+    rw z (record { count = rw (front-kept to l k) (sym n); buffer = rw (front-kept to l k, n, zero-add) (sym (take-append-drop to l)) })
 
 module _ (d : List ℕ) (from to : ℕ) (order : from ≤ to) (inside : to ≤ length d) where
   pub move-none : Moving d from to d 0

@@ -58,7 +58,7 @@ pub fn write_octets(buf: &mut [u8], at: usize, piece: &[u8]) -> Wrote
 }
 
 // Moves the octets of a buffer from a place to another to its front, and answers how many they are: what was not used
-// of a piece is the front of the next.
+// of a piece is the front of the next. Those that stand there already are not copied.
 pub fn keep(buf: &mut [u8], from: usize, to: usize) -> usize
     ensures { λ r. ⌜ Kept from to (now (buf .entry)) (now (buf .exit)) r ⌝ }
 {
@@ -67,6 +67,9 @@ pub fn keep(buf: &mut [u8], from: usize, to: usize) -> usize
     }
     if to > buf.len() {
         return 0;
+    }
+    if from == 0 {
+        return to;
     }
     let n = to - from;
     let mut i: usize = 0;

@@ -1,1 +1,3 @@
 pub mod Refilling
+pub mod Calling
+pub mod Lending

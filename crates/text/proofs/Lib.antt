@@ -1,2 +1,4 @@
 pub mod Digits
 pub mod Pieced
+pub mod Spelling
+pub mod Paging

@@ -16,7 +16,7 @@ fn length_octet(body: &[u8]) -> u8 {
 
 // A Facility body is read, as that of the one element of a FACILITY message: what stands in the column of its
 // components.
-pub(crate) fn reads_body(name: &[u8], body: &[u8], expected: &[u8]) {
+pub(crate) fn reads_body(page: &mut [u8; 4096], name: &[u8], body: &[u8], expected: &[u8]) {
     let mut m = [0u8; 64];
     let k = end_of(write_octets(&mut m, 0, b"\x08\x01\x01\x62\x1C"));
     let l = end_of(write_octets(&mut m, k, &[length_octet(body)]));
@@ -24,12 +24,12 @@ pub(crate) fn reads_body(name: &[u8], body: &[u8], expected: &[u8]) {
     let mut line = [0u8; 256];
     let e = end_of(write_line(&mut line, 0, 0, part(&m, Place::At(0, n))));
     let found = part(&line, Place::At(15, std::num::wrapping_sub_usize(e, 18)));
-    case(name, found, check::same(found, expected));
+    case(page, name, found, check::same(found, expected));
 }
 
 // A component is written as a whole element; it is refused with 7 where no octets are expected.
-pub(crate) fn writes(name: &[u8], c: Component, expected: &[u8]) {
+pub(crate) fn writes(page: &mut [u8; 4096], name: &[u8], c: Component, expected: &[u8]) {
     let mut buf = [0xEEu8; 32];
     let w = write_facility(&mut buf, 0, c);
-    wrote(name, w, &buf, expected, 7);
+    wrote(page, name, w, &buf, expected, 7);
 }

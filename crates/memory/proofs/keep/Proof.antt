@@ -2,7 +2,7 @@ use Prim.Native.Nat.{_-_, _≤_}
 use mathlib.Core.Path.{_≡_, refl}
 use native.Mathlib.Omega.{arith}
 use lib.ListN.{length}
-use Rattle.memory.proofs.Keeping.{Moving, crossed, outside, move-none, move-one, moved}
+use Rattle.memory.proofs.Keeping.{Moving, crossed, outside, stays, move-none, move-one, moved}
 use borrow.Author.Needs.{needs}
 use Rattle.memory.proofs.keep.Statement.{statement}
 use Rattle.memory.proofs.keep.Tie as tie
@@ -19,8 +19,14 @@ returns c = crossed (c .if1 .taken)
 returns-2 : tie.Need-returns-2 Inv-loop μ-loop
 returns-2 c = outside (c .before .if1 .left) (c .if2 .taken)
 
+returns-3 : tie.Need-returns-3 Inv-loop μ-loop
+returns-3 c = stays (c .if3 .taken) (c .before .if2 .left)
+
 loop-holds : tie.Need-loop-holds Inv-loop μ-loop
-loop-holds c = (move-none _ _ _ (c .before .if1 .left) (c .if2 .left), refl, c .before .if1 .left, c .if2 .left)
+loop-holds c =
+    let a = c .before .before .if1 .left in
+    let b = c .before .if2 .left in
+    (move-none _ _ _ a b, refl, a, b)
 
 add-buf : tie.Need-add-buf Inv-loop μ-loop
 add-buf c = search needs
@@ -44,8 +50,8 @@ loop-again c = let v = c .before .before .loop .inv in
 same-length : tie.Need-same-length Inv-loop μ-loop
 same-length c = c .before .loop .inv .0 .long
 
-returns-3 : tie.Need-returns-3 Inv-loop μ-loop
-returns-3 c = let v = c .before .loop .inv in rw (v .1) (moved _ _ _ (v .2) (v .3) (omega arith) (v .0))
+returns-4 : tie.Need-returns-4 Inv-loop μ-loop
+returns-4 c = let v = c .before .loop .inv in rw (v .1) (moved _ _ _ (v .2) (v .3) (omega arith) (v .0))
 
 pub keep-spec : {M : Type 1} → statement M
 keep-spec =
@@ -55,6 +61,7 @@ keep-spec =
     μ-loop
     returns
     returns-2
+    returns-3
     loop-holds
     add-buf
     slice-read-buf
@@ -63,4 +70,4 @@ keep-spec =
     loop-less
     loop-again
     same-length
-    returns-3)
+    returns-4)

@@ -1,4 +1,3 @@
-use native.Mathlib.Omega.{arith}
 use Rattle.streams.proofs.Refilling.{refills}
 use borrow.Author.Needs.{needs}
 use Rattle.streams.proofs.fetch.Statement.{statement}
@@ -10,16 +9,29 @@ keep-requires c κs = search needs
 read-after-requires : tie.Need-read-after-requires
 read-after-requires c κs = search needs
 
-add-t10 : tie.Need-add-t10
-add-t10 c =
-    let f = refills (c .before .before .before .before .before .before .keep .ensures) (c .before .before .read-after .ensures) in
-    omega (arith, f .most, f .long)
+count-of-requires : tie.Need-count-of-requires
+count-of-requires c κs = search needs
+
+add-t11 : tie.Need-add-t11
+add-t11 c = search needs
+
+has-failed-requires : tie.Need-has-failed-requires
+has-failed-requires c κs = search needs
 
 same-length : tie.Need-same-length
 same-length c = search needs
 
 returns : tie.Need-returns
-returns c = refills (c .before .before .before .before .before .before .keep .ensures) (c .before .before .read-after .ensures)
+returns c = rw (c .before .count-of .ensures, c .has-failed .ensures) (refills (c .before .before .before .before .read-after .result) (c .before .before .before .before .before .before .before .before .keep .ensures) (c .before .before .before .before .read-after .ensures))
 
 pub fetch-spec : {M : Type 1} → statement M
-fetch-spec = tie.close (tie.spec keep-requires read-after-requires add-t10 same-length returns)
+fetch-spec =
+    tie.close
+    (tie.spec
+    keep-requires
+    read-after-requires
+    count-of-requires
+    add-t11
+    has-failed-requires
+    same-length
+    returns)

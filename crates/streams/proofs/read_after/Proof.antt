@@ -1,45 +1,59 @@
-use Rattle.streams.proofs.Refilling.{reads-after}
+use Rattle.streams.specs.Outcome.{countOf}
+use Rattle.streams.specs.Refill.{ReadAfter}
+use Rattle.streams.proofs.Refilling.{once-more}
 use borrow.Author.Needs.{needs}
 use Rattle.streams.proofs.read_after.Statement.{statement}
 use Rattle.streams.proofs.read_after.Tie as tie
 
-returns : tie.Need-returns
-returns c = search needs
+abbrev Inv-loop : tie.InvT-loop
+Inv-loop buf₀ left o₀ turns₀ buf o turns = ReadAfter left buf₀ buf (countOf o)
 
-sub-part : tie.Need-sub-part
-sub-part c = search needs
+abbrev μ-loop : tie.MeasureT-loop
+μ-loop buf₀ left o₀ turns₀ buf o turns = turns
 
-part-part-start : tie.Need-part-part-start
-part-part-start c = search needs
+loop-holds : tie.Need-loop-holds Inv-loop μ-loop
+loop-holds c = search needs
 
-part-part-end : tie.Need-part-part-end
-part-part-end c = search needs
+is-open-requires : tie.Need-is-open-requires Inv-loop μ-loop
+is-open-requires c κs = search needs
 
-read-requires : tie.Need-read-requires
-read-requires c κs = search needs
+read-once-requires : tie.Need-read-once-requires Inv-loop μ-loop
+read-once-requires c κs = search needs
 
-count-requires : tie.Need-count-requires
-count-requires c κs = search needs
+sub-turns : tie.Need-sub-turns Inv-loop μ-loop
+sub-turns c = search needs
 
-same-length : tie.Need-same-length
+loop-less : tie.Need-loop-less Inv-loop μ-loop
+loop-less c = search needs
+
+loop-again : tie.Need-loop-again Inv-loop μ-loop
+loop-again c = once-more (c .before .before .before .before .before .before .before .loop .inv) (c .before .before .read-once .ensures)
+
+same-length : tie.Need-same-length Inv-loop μ-loop
 same-length c = search needs
 
-returns-2 : tie.Need-returns-2
-returns-2 c =
-    reads-after _ (c .before .before .before .before .before .before .read .last .1 .0)
-    (c .before .before .before .before .before .before .before .before .before .if1 .left)
-    (c .before .before .before .before .before .before .read .kept .1 .0)
-    (c .before .before .count .ensures .0 .0)
+returns : tie.Need-returns Inv-loop μ-loop
+returns c = search needs
+
+same-length-2 : tie.Need-same-length-2 Inv-loop μ-loop
+same-length-2 c = search needs
+
+returns-2 : tie.Need-returns-2 Inv-loop μ-loop
+returns-2 c = search needs
 
 pub read-after-spec : {M : Type 1} → statement M
 read-after-spec =
     tie.close
     (tie.spec
-    returns
-    sub-part
-    part-part-start
-    part-part-end
-    read-requires
-    count-requires
+    Inv-loop
+    μ-loop
+    loop-holds
+    is-open-requires
+    read-once-requires
+    sub-turns
+    loop-less
+    loop-again
     same-length
+    returns
+    same-length-2
     returns-2)
