@@ -9,6 +9,7 @@ use Rattle.answering_rules.specs.declared.Fates.{Fates}
 use Rattle.answer.specs.declared.Answer.{Answer}
 use Rattle.message_types.specs.declared.Kind.{Kind}
 use Rattle.sent.specs.declared.Sent.{Sent}
+use Rattle.sent.specs.declared.dispatch.Carrier.{Carrier}
 use Rattle.phases.specs.declared.Phase.{Phase}
 use Rattle.call.specs.declared.Call.{Call}
 use Rattle.call.specs.declared.reply.Reply.{Reply}
@@ -18,21 +19,16 @@ use Rattle.answering_rules.specs.Effects.{failedOf, settlesOf, tellsOf, decline
 use Rattle.cause.specs.Cause.{cleared}
 use Rattle.user_element.specs.Element.{seenOf, notedOf, goesOutOf}
 use Rattle.sent.specs.Message.{sayingOf, bareOf}
+use Rattle.sent.specs.Dispatch.{byOneOf, toUsersOf}
 use Rattle.phases.specs.Phase.{requestedOf, connectableOf}
+use Rattle.call.specs.Records.{renewedOf}
 use Rattle.call.specs.Sound.{inPhaseOf}
 use Rattle.call.specs.Reply.{barOf, heardOf}
 
 -- the record in its next phase, with what the answers made of the services
 unfoldable pub answeredCallOf : Call → Phase → Fates → Call
 answeredCallOf c next f =
-    record {
-      reference = c .reference;
-      rights = c .rights;
-      phase = next;
-      standings = settlesOf (c .standings) f;
-      asking = c .asking;
-      meters = inForceAfterOf (c .meters) (c .rights .burst) (f .three);
-    }
+    renewedOf c next (settlesOf (c .standings) f) (c .asking) (inForceAfterOf (c .meters) (c .rights .burst) (f .three))
 
 -- "Otherwise the message goes on with these answers, and its element if service 1 is in force."
 unfoldable pub goesOnOf : Call → Kind → Phase → Fates → Seen → Reply
@@ -41,8 +37,9 @@ goesOnOf c kind next f seen =
       call = answeredCallOf c next f;
       answer = Answer.Taken;
       note = notedOf seen (inForceOf (answeredCallOf c next f .standings .one));
-      calling = sayingOf kind Cause.Absent (tellsOf f) (goesOutOf seen (inForceOf (answeredCallOf c next f .standings .one)));
-      called = Sent.Absent;
+      dispatch =
+          toUsersOf (sayingOf kind Cause.Absent (tellsOf f) (goesOutOf seen (inForceOf (answeredCallOf c next f .standings .one)))) Sent.Absent
+          (byOneOf (goesOutOf seen (inForceOf (answeredCallOf c next f .standings .one))));
     }
 
 -- "Required and not accepted: DISCONNECT to the caller with rejectedByUser for each due service not accepted, and to
@@ -53,8 +50,8 @@ clearsOf c cause f seen =
       call = inPhaseOf c Phase.Clearing;
       answer = Answer.Taken;
       note = notedOf seen false;
-      calling = sayingOf Kind.Disconnect (Cause.Value cause) (declinesOf f) false;
-      called = bareOf Kind.Disconnect (Cause.Value cleared);
+      dispatch =
+          toUsersOf (sayingOf Kind.Disconnect (Cause.Value cause) (declinesOf f) false) (bareOf Kind.Disconnect (Cause.Value cleared)) Carrier.Nobody;
     }
 
 -- the cause is that of a failure, if there is one

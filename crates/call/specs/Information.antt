@@ -14,21 +14,14 @@ use Rattle.services.specs.Standing.{inForceOf}
 use Rattle.user_element.specs.Element.{seenOf, wholeOf, notedOf}
 use Rattle.phases.specs.Phase.{talkingOf}
 use Rattle.information_rules.specs.Serving.{servedOf}
-use Rattle.information_rules.specs.Messages.{passageAnswerOf, toSenderOf, toReceiverOf}
+use Rattle.information_rules.specs.Messages.{passageAnswerOf, carrierOf, toSenderOf, toReceiverOf}
+use Rattle.call.specs.Records.{renewedOf}
 use Rattle.call.specs.Reply.{barOf, refusedOf, heardOf, replyOf}
 use Rattle.flow_meter.specs.CallMeters.{meterOf, spentOf}
 
 -- the record with other meters
 unfoldable pub metersOf : Call → Meters → Call
-metersOf c m =
-    record {
-      reference = c .reference;
-      rights = c .rights;
-      phase = c .phase;
-      standings = c .standings;
-      asking = c .asking;
-      meters = m;
-    }
+metersOf c m = renewedOf c (c .phase) (c .standings) (c .asking) m
 
 -- what a side's message meets in its meter
 unfoldable pub informationPassageOf : Call → Side → Passage
@@ -40,7 +33,7 @@ informationPassageOf c side =
 -- what the passage makes of the call, and the messages
 unfoldable pub carriedOf : Call → Side → Bool → Passage → Reply
 carriedOf c side more p =
-    replyOf side (metersOf c (spentOf (c .meters) side p)) (passageAnswerOf p) Note.Clear (toSenderOf p) (toReceiverOf p more)
+    replyOf side (metersOf c (spentOf (c .meters) side p)) (passageAnswerOf p) Note.Clear (toSenderOf p) (toReceiverOf p more) (carrierOf p)
 
 -- "17 USER INFORMATION, element absent, under 3 octets or over the limit", "which note 1 also brings". It has the
 -- element's note.

@@ -1,3 +1,4 @@
+pub mod Records
 pub mod Sound
 pub mod Reply
 pub mod Setup

@@ -3,9 +3,11 @@ use mathlib.Core.Bool.{Bool, cond}
 use Rattle.user_element.specs.declared.Note.{Note}
 use Rattle.answer.specs.declared.Answer.{Answer}
 use Rattle.sent.specs.declared.Sent.{Sent}
+use Rattle.sent.specs.declared.dispatch.Carrier.{Carrier}
 use Rattle.sent.specs.declared.side.Side.{Side}
 use Rattle.call.specs.declared.Call.{Call}
 use Rattle.call.specs.declared.reply.Reply.{Reply}
+use Rattle.sent.specs.Dispatch.{toUsersOf, nothingSent}
 use Rattle.answer.specs.Answer.{takenOf, firstBar}
 use Rattle.call.specs.Sound.{soundOf}
 
@@ -15,7 +17,7 @@ barOf c allowed ranged = firstBar (soundOf c) allowed ranged
 
 -- "11 to 25 change no call, meter or table and send nothing"
 unfoldable pub refusedOf : Call → Answer → Note → Reply
-refusedOf c a note = record { call = c; answer = a; note = note; calling = Sent.Absent; called = Sent.Absent }
+refusedOf c a note = record { call = c; answer = a; note = note; dispatch = nothingSent }
 
 -- the reply, unless the event is barred; "Every other refusal has note 0."
 unfoldable pub heardOf : Call → Answer → Reply → Reply
@@ -26,6 +28,6 @@ pickOf Side.Calling calling called = calling
 pickOf Side.Called calling called = called
 
 -- a reply to one side's event: back goes to that side, on to the other
-unfoldable pub replyOf : Side → Call → Answer → Note → Sent → Sent → Reply
-replyOf side c a note back on =
-    record { call = c; answer = a; note = note; calling = pickOf side back on; called = pickOf side on back }
+unfoldable pub replyOf : Side → Call → Answer → Note → Sent → Sent → Carrier → Reply
+replyOf side c a note back on carrier =
+    record { call = c; answer = a; note = note; dispatch = toUsersOf (pickOf side back on) (pickOf side on back) carrier }

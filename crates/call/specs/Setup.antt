@@ -5,40 +5,24 @@ use mathlib.Core.Bool.{_&&_}
 use Rattle.user_element.specs.declared.Seen.{Seen}
 use Rattle.rights.specs.declared.Rights.{Rights}
 use Rattle.services.specs.declared.Requests.{Requests}
-use Rattle.services.specs.declared.Standings.{Standings}
 use Rattle.answer.specs.declared.Answer.{Answer}
-use Rattle.phases.specs.declared.Phase.{Phase}
 use Rattle.call.specs.declared.Call.{Call}
 use Rattle.call.specs.declared.reply.Reply.{Reply}
 use Rattle.rights.specs.Rights.{rightsFitOf, referenceFitsOf}
 use Rattle.setup_rules.specs.Requests.{openingOf}
 use Rattle.user_element.specs.Element.{seenOf}
-use Rattle.facility_rules.specs.Asking.{nobodyAsks}
 use Rattle.phases.specs.Phase.{freshOf}
-use Rattle.flow_meter.specs.CallMeters.{emptyMeters}
+use Rattle.call.specs.Records.{openedOf}
 use Rattle.call.specs.Reply.{barOf, heardOf}
 
--- "SETUP fills the whole record, used for one call."
-unfoldable pub filledOf : ℕ → Rights → Phase → Standings → Call
-filledOf reference rights phase standings =
-    record {
-      reference = reference;
-      rights = rights;
-      phase = phase;
-      standings = standings;
-      asking = nobodyAsks;
-      meters = emptyMeters;
-    }
-
--- a SETUP that is taken: the new record and the two messages
+-- a SETUP that is taken: "SETUP fills the whole record, used for one call", and the two messages
 unfoldable pub proceedsOf : ℕ → Rights → Requests → Seen → Reply
 proceedsOf reference rights q seen =
     record {
-      call = filledOf reference rights (openingOf rights q seen .phase) (openingOf rights q seen .standings);
+      call = openedOf reference rights (openingOf rights q seen .phase) (openingOf rights q seen .standings);
       answer = Answer.Taken;
       note = openingOf rights q seen .note;
-      calling = openingOf rights q seen .calling;
-      called = openingOf rights q seen .called;
+      dispatch = openingOf rights q seen .dispatch;
     }
 
 -- "SETUP (Fresh)." Number 24: "SETUP, reference or rights out of range".

@@ -5,24 +5,15 @@ use Rattle.phases.specs.declared.Phase.{Phase}
 use Rattle.call.specs.declared.Call.{Call}
 use Rattle.rights.specs.declared.Rights.{Rights}
 use Rattle.rights.specs.Rights.{noRights, rightsFitOf, referenceFitsOf}
-use Rattle.facility_rules.specs.Asking.{nobodyAsks}
 use Rattle.phases.specs.Phase.{liveOf}
 use Rattle.flow_meter.specs.Meter.{meterFitsOf}
 use Rattle.flow_meter.specs.declared.call_meters.Meters.{Meters}
-use Rattle.flow_meter.specs.CallMeters.{emptyMeters}
 use Rattle.services.specs.Standing.{noServices}
+use Rattle.call.specs.Records.{openedOf, renewedOf}
 
 -- a record before its SETUP
 unfoldable pub freshCall : Call
-freshCall =
-    record {
-      reference = 0;
-      rights = noRights;
-      phase = Phase.Fresh;
-      standings = noServices;
-      asking = nobodyAsks;
-      meters = emptyMeters;
-    }
+freshCall = openedOf 0 noRights Phase.Fresh noServices
 
 -- "a live record or meter with a field out of range, credit over X or count over 2"
 abbrev pub rangesFit : ℕ → Rights → Meters → Bool
@@ -40,12 +31,4 @@ soundOf c = cond (liveOf (c .phase)) (fieldsFitOf c) true
 
 -- the record in another phase, all else as it was
 unfoldable pub inPhaseOf : Call → Phase → Call
-inPhaseOf c p =
-    record {
-      reference = c .reference;
-      rights = c .rights;
-      phase = p;
-      standings = c .standings;
-      asking = c .asking;
-      meters = c .meters;
-    }
+inPhaseOf c p = renewedOf c p (c .standings) (c .asking) (c .meters)

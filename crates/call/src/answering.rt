@@ -2,6 +2,7 @@
 ghost use mathlib.Core.Path.{_≡_};
 ghost use Rattle.call.specs.Answering.{goesOnOf, clearsOf, answeredOf, alertingOf, connectOf};
 use crate::Call;
+use crate::records::renewed;
 use crate::reply::Reply;
 use crate::reply::heard;
 use crate::sound::in_phase;
@@ -22,6 +23,9 @@ use phases::is_connectable;
 use phases::is_requested;
 use sent::Sent;
 use sent::bare;
+use sent::dispatch::Carrier;
+use sent::dispatch::by_one;
+use sent::dispatch::to_users;
 use sent::saying;
 use services::Answers;
 use services::in_force;
@@ -42,19 +46,22 @@ fn goes_on(c: Call, kind: Kind, next: Phase, fates: Fates, seen: Seen) -> Reply
     let standings = settles(before, fates);
     let one = standings.one;
     let carried = in_force(one);
+    let goes = goes_out(seen, carried);
     Reply {
-        call: Call {
-            reference: c.reference,
-            rights: rights,
-            phase: next,
-            standings: standings,
-            asking: asking,
-            meters: in_force_after(meters, rights.burst, three),
-        },
+        call: renewed(
+            c,
+            next,
+            standings,
+            asking,
+            in_force_after(meters, rights.burst, three),
+        ),
         answer: Answer::Taken,
         note: noted(seen, carried),
-        calling: saying(kind, Cause::Absent, tells(fates), goes_out(seen, carried)),
-        called: Sent::Absent,
+        dispatch: to_users(
+            saying(kind, Cause::Absent, tells(fates), goes),
+            Sent::Absent,
+            by_one(goes),
+        ),
     }
 }
 
@@ -66,13 +73,16 @@ fn clears(c: Call, cause: u8, fates: Fates, seen: Seen) -> Reply
         call: in_phase(c, Phase::Clearing),
         answer: Answer::Taken,
         note: noted(seen, false),
-        calling: saying(
-            Kind::Disconnect,
-            Cause::Value(cause),
-            declines(fates),
-            false,
+        dispatch: to_users(
+            saying(
+                Kind::Disconnect,
+                Cause::Value(cause),
+                declines(fates),
+                false,
+            ),
+            bare(Kind::Disconnect, Cause::Value(CLEARED)),
+            Carrier::Nobody,
         ),
-        called: bare(Kind::Disconnect, Cause::Value(CLEARED)),
     }
 }
 

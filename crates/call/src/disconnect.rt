@@ -2,6 +2,7 @@
 ghost use mathlib.Core.Path.{_≡_};
 ghost use Rattle.call.specs.Disconnect.{passedOnOf, disconnectOf, releaseCompleteOf};
 use crate::Call;
+use crate::records::renewed;
 use crate::reply::Reply;
 use crate::reply::heard;
 use crate::reply::reply_to;
@@ -18,6 +19,8 @@ use phases::is_live;
 use phases::is_up;
 use sent::Sent;
 use sent::bare;
+use sent::dispatch::Carrier;
+use sent::dispatch::by_one;
 use sent::saying;
 use sent::side::Side;
 use services::Answers;
@@ -33,7 +36,6 @@ use user_element::noted;
 fn passed_on(c: Call, side: Side, cause: u8, answers: Answers, seen: Seen) -> Reply
     ensures { λ r. ⌜ r ≡ passedOnOf c side cause answers seen ⌝ }
 {
-    let rights = c.rights;
     let standings = c.standings;
     let asking = c.asking;
     let meters = c.meters;
@@ -43,25 +45,15 @@ fn passed_on(c: Call, side: Side, cause: u8, answers: Answers, seen: Seen) -> Re
     let first = answers.one;
     let next = closing_standing(one, first);
     let carried = in_force(next);
+    let goes = goes_out(seen, carried);
     let said = closing_facilities(standings, asking.calling, answers);
-    let on = saying(
-        Kind::Disconnect,
-        Cause::Value(cause),
-        said,
-        goes_out(seen, carried),
-    );
-    let call = Call {
-        reference: c.reference,
-        rights: rights,
-        phase: Phase::Clearing,
-        standings: Standings {
-            one: next,
-            two: two,
-            three: three,
-        },
-        asking: asking,
-        meters: meters,
+    let on = saying(Kind::Disconnect, Cause::Value(cause), said, goes);
+    let after = Standings {
+        one: next,
+        two: two,
+        three: three,
     };
+    let call = renewed(c, Phase::Clearing, after, asking, meters);
     reply_to(
         side,
         call,
@@ -69,6 +61,7 @@ fn passed_on(c: Call, side: Side, cause: u8, answers: Answers, seen: Seen) -> Re
         noted(seen, carried),
         Sent::Absent,
         on,
+        by_one(goes),
     )
 }
 
@@ -90,7 +83,15 @@ impl Call {
         let phase = self.phase;
         let on = bare(Kind::ReleaseComplete, Cause::Absent);
         let call = in_phase(self, Phase::Ended);
-        let reply = reply_to(side, call, Answer::Taken, Note::Clear, Sent::Absent, on);
+        let reply = reply_to(
+            side,
+            call,
+            Answer::Taken,
+            Note::Clear,
+            Sent::Absent,
+            on,
+            Carrier::Nobody,
+        );
         heard(self, is_live(phase), true, reply)
     }
 }

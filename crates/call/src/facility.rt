@@ -4,6 +4,7 @@ ghost use mathlib.Core.Bool.{cond};
 ghost use Rattle.answer.specs.Answer.{takenOf};
 ghost use Rattle.call.specs.Facility.{facilityVerdictOf, facilityCallOf, passesFacilityOf, facilityOf};
 use crate::Call;
+use crate::records::renewed;
 use crate::reply::Reply;
 use crate::reply::heard;
 use crate::reply::reply_to;
@@ -17,6 +18,7 @@ use facility_rules::messages::to_asker;
 use facility_rules::messages::to_other;
 use facility_rules::verdict;
 use phases::is_active;
+use sent::dispatch::Carrier;
 use sent::side::Side;
 use services::Standings;
 use services::in_force;
@@ -37,18 +39,18 @@ fn facility_call(c: Call, side: Side, what: What, answer: Answer) -> Call
     let one = standings.one;
     let two = standings.two;
     let three = standings.three;
-    Call {
-        reference: c.reference,
-        rights: rights,
-        phase: phase,
-        standings: Standings {
-            one: one,
-            two: two,
-            three: facility_three(three, what),
-        },
-        asking: facility_asking(asking, side, what),
-        meters: facility_meters(meters, rights.burst, what),
-    }
+    let after = Standings {
+        one: one,
+        two: two,
+        three: facility_three(three, what),
+    };
+    renewed(
+        c,
+        phase,
+        after,
+        facility_asking(asking, side, what),
+        facility_meters(meters, rights.burst, what),
+    )
 }
 
 fn passes_facility(c: Call, side: Side, what: What) -> Reply
@@ -66,6 +68,7 @@ fn passes_facility(c: Call, side: Side, what: What) -> Reply
         Note::Clear,
         to_asker(answer),
         to_other(answer, what),
+        Carrier::Nobody,
     )
 }
 

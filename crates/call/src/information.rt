@@ -10,6 +10,7 @@ use answer::Answer;
 use flow_meter::call_meters::Meters;
 use flow_meter::call_meters::meter_of;
 use flow_meter::call_meters::spent;
+use information_rules::messages::carrier_of;
 use information_rules::messages::passage_answer;
 use information_rules::messages::to_receiver;
 use information_rules::messages::to_sender;
@@ -56,6 +57,7 @@ fn carried(c: Call, side: Side, more: bool) -> Reply
         Note::Clear,
         to_sender(p),
         to_receiver(p, more),
+        carrier_of(p),
     )
 }
 

@@ -9,6 +9,7 @@ pub mod answering;
 pub mod disconnect;
 pub mod facility;
 pub mod information;
+mod records;
 pub mod reply;
 pub mod setup;
 pub mod sound;

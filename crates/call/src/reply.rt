@@ -6,16 +6,18 @@ use answer::Answer;
 use answer::first_bar;
 use answer::taken;
 use sent::Sent;
+use sent::dispatch::Carrier;
+use sent::dispatch::Dispatch;
+use sent::dispatch::nothing_sent;
+use sent::dispatch::to_users;
 use sent::side::Side;
 use user_element::Note;
 
-// calling and called: what is sent to the calling and to the called user.
 pub struct Reply {
     pub call: Call,
     pub answer: Answer,
     pub note: Note,
-    pub calling: Sent,
-    pub called: Sent,
+    pub dispatch: Dispatch,
 }
 
 // A refusal leaves the record as it was and sends nothing.
@@ -26,8 +28,7 @@ pub(crate) fn refused(c: Call, a: Answer, note: Note) -> Reply
         call: c,
         answer: a,
         note: note,
-        calling: Sent::Absent,
-        called: Sent::Absent,
+        dispatch: nothing_sent(),
     }
 }
 
@@ -53,14 +54,21 @@ fn pick(side: Side, calling: Sent, called: Sent) -> Sent
 }
 
 // A reply to one side's event: `back` goes to that side, `on` to the other.
-pub(crate) fn reply_to(side: Side, c: Call, a: Answer, note: Note, back: Sent, on: Sent) -> Reply
-    ensures { λ r. ⌜ r ≡ replyOf side c a note back on ⌝ }
+pub(crate) fn reply_to(
+    side: Side,
+    c: Call,
+    a: Answer,
+    note: Note,
+    back: Sent,
+    on: Sent,
+    carrier: Carrier,
+) -> Reply
+    ensures { λ r. ⌜ r ≡ replyOf side c a note back on carrier ⌝ }
 {
     Reply {
         call: c,
         answer: a,
         note: note,
-        calling: pick(side, back, on),
-        called: pick(side, on, back),
+        dispatch: to_users(pick(side, back, on), pick(side, on, back), carrier),
     }
 }

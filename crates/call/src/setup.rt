@@ -2,11 +2,10 @@
 ghost use mathlib.Core.Path.{_≡_};
 ghost use Rattle.call.specs.Setup.{proceedsOf, setupOf};
 use crate::Call;
+use crate::records::opened;
 use crate::reply::Reply;
 use crate::reply::heard;
 use answer::Answer;
-use facility_rules::nobody_asks;
-use flow_meter::call_meters::empty_meters;
 use phases::is_fresh;
 use rights::Rights;
 use rights::reference_fits;
@@ -23,21 +22,12 @@ fn proceeds(reference: u16, rights: Rights, requests: Requests, seen: Seen) -> R
     let phase = opening.phase;
     let standings = opening.standings;
     let note = opening.note;
-    let calling = opening.calling;
-    let called = opening.called;
+    let dispatch = opening.dispatch;
     Reply {
-        call: Call {
-            reference: reference,
-            rights: rights,
-            phase: phase,
-            standings: standings,
-            asking: nobody_asks(),
-            meters: empty_meters(),
-        },
+        call: opened(reference, rights, phase, standings),
         answer: Answer::Taken,
         note: note,
-        calling: calling,
-        called: called,
+        dispatch: dispatch,
     }
 }
 

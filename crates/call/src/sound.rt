@@ -3,9 +3,9 @@ ghost use mathlib.Core.Path.{_≡_};
 ghost use Rattle.call.specs.Sound.{inPhaseOf, rangesFit, freshCall, soundOf};
 ghost use Rattle.phases.specs.Phase.{liveOf};
 use crate::Call;
-use facility_rules::nobody_asks;
+use crate::records::opened;
+use crate::records::renewed;
 use flow_meter::call_meters::Meters;
-use flow_meter::call_meters::empty_meters;
 use flow_meter::meter_fits;
 use phases::Phase;
 use phases::is_live;
@@ -19,18 +19,10 @@ use services::no_services;
 pub(crate) fn in_phase(c: Call, p: Phase) -> Call
     ensures { λ r. ⌜ r ≡ inPhaseOf c p ⌝ }
 {
-    let rights = c.rights;
     let standings = c.standings;
     let asking = c.asking;
     let meters = c.meters;
-    Call {
-        reference: c.reference,
-        rights: rights,
-        phase: p,
-        standings: standings,
-        asking: asking,
-        meters: meters,
-    }
+    renewed(c, p, standings, asking, meters)
 }
 
 // Whether what a live record holds is in range, both meters included.
@@ -47,14 +39,7 @@ impl Call {
     pub fn fresh() -> Call
         ensures { λ r. ⌜ r ≡ freshCall ⌝ }
     {
-        Call {
-            reference: 0,
-            rights: no_rights(),
-            phase: Phase::Fresh,
-            standings: no_services(),
-            asking: nobody_asks(),
-            meters: empty_meters(),
-        }
+        opened(0, no_rights(), Phase::Fresh, no_services())
     }
 
     pub fn live(self) -> bool

@@ -10,6 +10,8 @@ use flow_meter::call_meters::ready;
 use flow_meter::call_meters::refills;
 use information_rules::serves_three;
 use phases::is_live;
+use sent::dispatch::Carrier;
+use sent::dispatch::to_users;
 use services::in_force;
 use user_element::Note;
 
@@ -28,8 +30,7 @@ fn passes_tick(c: Call) -> Reply
         call: with_meters(c, refills(meters, rights, runs)),
         answer: Answer::Taken,
         note: Note::Clear,
-        calling: ready(calling, runs),
-        called: ready(called, runs),
+        dispatch: to_users(ready(calling, runs), ready(called, runs), Carrier::Nobody),
     }
 }
 

@@ -1,8 +1,10 @@
--- What a USER INFORMATION message is answered, and what its sender and the other side are sent.
+-- What a USER INFORMATION message is answered, which service carries it, and what both sides are sent.
 use mathlib.Core.Bool.{Bool, true, false}
 use Rattle.flow_meter.specs.declared.passage.Passage.{Passage}
+use Rattle.rights.specs.declared.Service.{Service}
 use Rattle.sent.specs.declared.Level.{Level}
 use Rattle.sent.specs.declared.Sent.{Sent}
+use Rattle.sent.specs.declared.dispatch.Carrier.{Carrier}
 use Rattle.sent.specs.Message.{congestionOf, informsOf, onlyIfOf}
 use Rattle.answer.specs.declared.Answer.{Answer}
 
@@ -13,6 +15,14 @@ passageAnswerOf (Passage.Three n) = Answer.Taken
 passageAnswerOf (Passage.Marks n) = Answer.Spent
 passageAnswerOf Passage.Spent = Answer.Spent
 passageAnswerOf Passage.Unserved = Answer.NoService
+
+-- "its remaining count first; then service 3": the service that pays for a message carries it
+abbrev pub carrierOf : Passage → Carrier
+carrierOf (Passage.Two n) = Carrier.By Service.Two
+carrierOf (Passage.Three n) = Carrier.By Service.Three
+carrierOf (Passage.Marks n) = Carrier.Nobody
+carrierOf Passage.Spent = Carrier.Nobody
+carrierOf Passage.Unserved = Carrier.Nobody
 
 abbrev pub passesOf : Passage → Bool
 passesOf (Passage.Two n) = true

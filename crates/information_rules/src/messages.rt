@@ -1,11 +1,13 @@
-// What a USER INFORMATION message is answered, and what its sender and the other side are sent.
+// What a USER INFORMATION message is answered, which service carries it, and what both sides are sent.
 ghost use mathlib.Core.Path.{_≡_};
-ghost use Rattle.information_rules.specs.Messages.{passageAnswerOf, toSenderOf, toReceiverOf};
+ghost use Rattle.information_rules.specs.Messages.{passageAnswerOf, carrierOf, toSenderOf, toReceiverOf};
 use answer::Answer;
 use flow_meter::passage::Passage;
+use rights::Service;
 use sent::Level;
 use sent::Sent;
 use sent::congestion;
+use sent::dispatch::Carrier;
 use sent::informs;
 
 pub fn passage_answer(p: Passage) -> Answer
@@ -17,6 +19,17 @@ pub fn passage_answer(p: Passage) -> Answer
         Passage::Marks(_) => Answer::Spent,
         Passage::Spent => Answer::Spent,
         Passage::Unserved => Answer::NoService,
+    }
+}
+
+// The service that pays for a message carries it.
+pub fn carrier_of(p: Passage) -> Carrier
+    ensures { λ r. ⌜ r ≡ carrierOf p ⌝ }
+{
+    match p {
+        Passage::Two(_) => Carrier::By(Service::Two),
+        Passage::Three(_) => Carrier::By(Service::Three),
+        _ => Carrier::Nobody,
     }
 }
 

@@ -1,4 +1,4 @@
--- A message to one user: "At most one message goes to each user per event."
+-- A message to one user.
 use mathlib.Core.Bool.{Bool, true, false, cond}
 use Rattle.cause.specs.declared.Cause.{Cause}
 use Rattle.services.specs.declared.Facilities.{Facilities}

@@ -8,6 +8,7 @@ use message_types::Kind;
 use services::Facilities;
 use services::Said;
 
+pub mod dispatch;
 pub mod side;
 
 // Nothing is said of any service.

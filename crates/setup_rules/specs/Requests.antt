@@ -17,6 +17,7 @@ use Rattle.message_types.specs.declared.Kind.{Kind}
 use Rattle.sent.specs.declared.Sent.{Sent}
 use Rattle.phases.specs.declared.Phase.{Phase}
 use Rattle.sent.specs.Message.{sayingOf}
+use Rattle.sent.specs.Dispatch.{byOneOf, toUsersOf}
 use Rattle.services.specs.Standing.{remainsOf}
 use Rattle.setup_rules.specs.declared.Opening.{Opening}
 
@@ -110,6 +111,8 @@ openingOf rights q seen =
       phase = setupPhaseOf (lacksOf rights q);
       standings = standingsOf rights q seen;
       note = notedOf seen (setupCarriesOf rights q seen);
-      calling = toCallerOf (lacksOf rights q) (networkRefusalsOf rights q);
-      called = toCalledOf (lacksOf rights q) (passedRequestsOf rights q) (goesOutOf seen (setupCarriesOf rights q seen));
+      dispatch =
+          toUsersOf (toCallerOf (lacksOf rights q) (networkRefusalsOf rights q))
+          (toCalledOf (lacksOf rights q) (passedRequestsOf rights q) (goesOutOf seen (setupCarriesOf rights q seen)))
+          (byOneOf (goesOutOf seen (setupCarriesOf rights q seen)));
     }

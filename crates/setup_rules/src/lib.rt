@@ -1,6 +1,6 @@
 // SETUP: what it asks for, held against the rights: how each service then stands, and what is said of it to each user.
 ghost use mathlib.Core.Path.{_≡_};
-ghost use Rattle.setup_rules.specs.Requests.{askedStandingOf, firstStandingOf, lackingOf, passedRequestOf, networkRefusalOf, standingsOf, lacksOf, networkRefusalsOf, passedRequestsOf, openingOf};
+ghost use Rattle.setup_rules.specs.Requests.{askedStandingOf, firstStandingOf, lackingOf, passedRequestOf, networkRefusalOf, standingsOf, lacksOf, networkRefusalsOf, passedRequestsOf, setupPhaseOf, toCallerOf, toCalledOf, openingOf};
 use cause::Cause;
 use cause::NOT_SUBSCRIBED;
 use message_types::Kind;
@@ -9,6 +9,9 @@ use rights::Rights;
 use rights::Service;
 use rights::has;
 use sent::Sent;
+use sent::dispatch::Dispatch;
+use sent::dispatch::by_one;
+use sent::dispatch::to_users;
 use sent::saying;
 use services::Facilities;
 use services::Request;
@@ -24,13 +27,12 @@ use user_element::noted;
 use user_element::whole;
 
 // What a SETUP that is taken makes of the call: its phase, how each service stands, the element's note, and the two
-// messages.
+// messages with what carries the element.
 pub struct Opening {
     pub phase: Phase,
     pub standings: Standings,
     pub note: Note,
-    pub calling: Sent,
-    pub called: Sent,
+    pub dispatch: Dispatch,
 }
 
 // How a service stands after SETUP; `had` says whether the rights have it.
@@ -163,6 +165,42 @@ fn passed_requests(rights: Rights, q: Requests) -> Facilities
     }
 }
 
+fn setup_phase(lacking: bool) -> Phase
+    ensures { λ r. ⌜ r ≡ setupPhaseOf lacking ⌝ }
+{
+    if lacking {
+        Phase::Ended
+    } else {
+        Phase::Requested
+    }
+}
+
+// The caller hears what the rights lack, whether the call ends or goes on.
+fn to_caller(lacking: bool, refusals: Facilities) -> Sent
+    ensures { λ r. ⌜ r ≡ toCallerOf lacking refusals ⌝ }
+{
+    if lacking {
+        saying(
+            Kind::ReleaseComplete,
+            Cause::Value(NOT_SUBSCRIBED),
+            refusals,
+            false,
+        )
+    } else {
+        saying(Kind::CallProceeding, Cause::Absent, refusals, false)
+    }
+}
+
+fn to_called(lacking: bool, requests: Facilities, element: bool) -> Sent
+    ensures { λ r. ⌜ r ≡ toCalledOf lacking requests element ⌝ }
+{
+    if lacking {
+        Sent::Absent
+    } else {
+        saying(Kind::Setup, Cause::Absent, requests, element)
+    }
+}
+
 // The element goes on where the message does and service 1 remains.
 pub fn opens(rights: Rights, q: Requests, s: Seen) -> Opening
     ensures { λ r. ⌜ r ≡ openingOf rights q s ⌝ }
@@ -171,32 +209,15 @@ pub fn opens(rights: Rights, q: Requests, s: Seen) -> Opening
     let one = standings.one;
     let lacking = lacks(rights, q);
     let carried = !lacking & remains(one);
-    let note = noted(s, carried);
-    let refusals = network_refusals(rights, q);
-    if lacking {
-        return Opening {
-            phase: Phase::Ended,
-            standings: standings,
-            note: note,
-            calling: saying(
-                Kind::ReleaseComplete,
-                Cause::Value(NOT_SUBSCRIBED),
-                refusals,
-                false,
-            ),
-            called: Sent::Absent,
-        };
-    }
+    let goes = goes_out(s, carried);
     Opening {
-        phase: Phase::Requested,
+        phase: setup_phase(lacking),
         standings: standings,
-        note: note,
-        calling: saying(Kind::CallProceeding, Cause::Absent, refusals, false),
-        called: saying(
-            Kind::Setup,
-            Cause::Absent,
-            passed_requests(rights, q),
-            goes_out(s, carried),
+        note: noted(s, carried),
+        dispatch: to_users(
+            to_caller(lacking, network_refusals(rights, q)),
+            to_called(lacking, passed_requests(rights, q), goes),
+            by_one(goes),
         ),
     }
 }

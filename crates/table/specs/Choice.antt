@@ -14,7 +14,7 @@ use Rattle.call.specs.declared.Call.{Call}
 use Rattle.table.specs.Table.{tableSound, findFrom, placeFrom}
 
 -- what an event wants of the table: SETUP a place under its own reference, with "reference or rights out of range" or
--- not; others that of a live call
+-- not; others that of a live call. Whoever asks whether an event is a SETUP asks this: the one list of the nine others.
 abbrev pub wantedOf : Event → Wanted
 wantedOf (Event.Setup reference rights requests) = Wanted.New reference (referenceFitsOf reference && rightsFitOf rights)
 wantedOf (Event.Alerting answers) = Wanted.Old
@@ -60,11 +60,11 @@ abbrev pub oldPlaceOf : Spot → Choice
 oldPlaceOf (Spot.At i) = Choice.At i
 oldPlaceOf Spot.Nothing = Choice.Refused Verdict.NoCall
 
-unfoldable pub chooseOf : Bool → Event → Spot → Spot → Choice
-chooseOf whole e held free =
+unfoldable pub chooseOf : Bool → Wanted → Spot → Spot → Choice
+chooseOf whole w held free =
     cond whole
-    (cond (opensOf e) (cond (setupRangedOf e) (newPlaceOf held free) (Choice.Refused (Verdict.Heard Answer.OutOfRange))) (oldPlaceOf held))
+    (cond (isNew w) (cond (inRange w) (newPlaceOf held free) (Choice.Refused (Verdict.Heard Answer.OutOfRange))) (oldPlaceOf held))
     (Choice.Refused (Verdict.Heard Answer.Unsound))
 
 unfoldable pub chosenOf : List Call → ℕ → Event → Choice
-chosenOf t n e = chooseOf (tableSound t) e (findFrom t 0 (meantReferenceOf n e)) (placeFrom t 0)
+chosenOf t n e = chooseOf (tableSound t) (wantedOf e) (findFrom t 0 (meantReferenceOf n e)) (placeFrom t 0)

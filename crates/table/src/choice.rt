@@ -1,6 +1,6 @@
 // Which record an event goes to, or the number that the table gives.
 ghost use mathlib.Core.Path.{_≡_};
-ghost use Rattle.table.specs.Choice.{wantedOf, meantReferenceOf, opensOf, newPlaceOf, oldPlaceOf, chooseOf};
+ghost use Rattle.table.specs.Choice.{wantedOf, ownOr, isNew, newPlaceOf, oldPlaceOf, chooseOf};
 use crate::verdict::Verdict;
 use answer::Answer;
 use event::Event;
@@ -25,7 +25,7 @@ pub enum Wanted {
     Old,
 }
 
-fn wants(event: Event) -> Wanted
+pub(crate) fn wants(event: Event) -> Wanted
     ensures { λ r. ⌜ r ≡ wantedOf event ⌝ }
 {
     match event {
@@ -38,21 +38,21 @@ fn wants(event: Event) -> Wanted
     }
 }
 
-// The reference that an event is about: SETUP has its own.
-pub(crate) fn reference_of(reference: u16, event: Event) -> u16
-    ensures { λ r. ⌜ r ≡ meantReferenceOf reference event ⌝ }
+// The reference that an event is about, beside which `reference` stands: SETUP has its own.
+pub(crate) fn reference_of(reference: u16, wanted: Wanted) -> u16
+    ensures { λ r. ⌜ r ≡ ownOr reference wanted ⌝ }
 {
-    match wants(event) {
+    match wanted {
         Wanted::New(own, ranged) => own,
         Wanted::Old => reference,
     }
 }
 
 // SETUP opens a call.
-pub(crate) fn opens(event: Event) -> bool
-    ensures { λ r. ⌜ r ≡ opensOf event ⌝ }
+pub(crate) fn opens(wanted: Wanted) -> bool
+    ensures { λ r. ⌜ r ≡ isNew wanted ⌝ }
 {
-    match wants(event) {
+    match wanted {
         Wanted::New(own, ranged) => true,
         Wanted::Old => false,
     }
@@ -81,11 +81,11 @@ fn old_place(held: Spot) -> Choice
     }
 }
 
-pub(crate) fn choose(whole: bool, event: Event, held: Spot, free: Spot) -> Choice
-    ensures { λ r. ⌜ r ≡ chooseOf whole event held free ⌝ }
+pub(crate) fn choose(whole: bool, wanted: Wanted, held: Spot, free: Spot) -> Choice
+    ensures { λ r. ⌜ r ≡ chooseOf whole wanted held free ⌝ }
 {
     if whole {
-        match wants(event) {
+        match wanted {
             Wanted::New(own, ranged) => {
                 if ranged {
                     new_place(held, free)

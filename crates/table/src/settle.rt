@@ -1,21 +1,22 @@
 // What an event makes of the record that it goes to, by value.
 ghost use mathlib.Core.Path.{_≡_};
 ghost use Rattle.table.specs.Settle.{subjectOf, changesOf, recordKeptOf, heardOutcomeOf, tableRefusalOf, settledOf};
+use crate::choice::Wanted;
 use crate::choice::opens;
+use crate::choice::wants;
 use crate::verdict::Verdict;
 use answer::Answer;
 use call::Call;
 use call::reply::Reply;
 use event::Event;
-use sent::Sent;
+use sent::dispatch::Dispatch;
+use sent::dispatch::nothing_sent;
 use user_element::Note;
 
-// calling and called: what is sent to the calling and to the called user.
 pub struct Outcome {
     pub verdict: Verdict,
     pub note: Note,
-    pub calling: Sent,
-    pub called: Sent,
+    pub dispatch: Dispatch,
 }
 
 // call: what the place holds afterwards.
@@ -25,10 +26,10 @@ pub struct Settled {
 }
 
 // SETUP starts a new call, whatever its place held.
-fn subject(c: Call, event: Event) -> Call
-    ensures { λ r. ⌜ r ≡ subjectOf c event ⌝ }
+fn subject(c: Call, wanted: Wanted) -> Call
+    ensures { λ r. ⌜ r ≡ subjectOf c wanted ⌝ }
 {
-    if opens(event) { Call::fresh() } else { c }
+    if opens(wanted) { Call::fresh() } else { c }
 }
 
 // Of the refusals, only 14 may change a record.
@@ -55,13 +56,11 @@ fn answered(r: Reply) -> Outcome
 {
     let a = r.answer;
     let note = r.note;
-    let calling = r.calling;
-    let called = r.called;
+    let dispatch = r.dispatch;
     Outcome {
         verdict: Verdict::Heard(a),
         note: note,
-        calling: calling,
-        called: called,
+        dispatch: dispatch,
     }
 }
 
@@ -72,15 +71,14 @@ pub(crate) fn refusal(v: Verdict) -> Outcome
     Outcome {
         verdict: v,
         note: Note::Clear,
-        calling: Sent::Absent,
-        called: Sent::Absent,
+        dispatch: nothing_sent(),
     }
 }
 
 pub(crate) fn settles(c: Call, event: Event, element: &[u8]) -> Settled
     ensures { λ r. ⌜ r ≡ settledOf c event (now (element .entry)) ⌝ }
 {
-    let s = subject(c, event);
+    let s = subject(c, wants(event));
     let r = s.step(event, element);
     Settled {
         call: kept(c, r),

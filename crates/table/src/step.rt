@@ -7,6 +7,7 @@ use crate::call_at;
 use crate::choice::Choice;
 use crate::choice::choose;
 use crate::choice::reference_of;
+use crate::choice::wants;
 use crate::find;
 use crate::place;
 use crate::plan::Change;
@@ -68,10 +69,11 @@ pub fn step(t: &mut [Call], reference: u16, event: Event, element: &[u8]) -> Out
 fn chosen(t: &[Call], reference: u16, event: Event) -> Choice
     ensures { λ r. ⌜ r ≡ chosenOf (now (t .entry)) reference event ⌝ }
 {
-    let named = reference_of(reference, event);
+    let wanted = wants(event);
+    let named = reference_of(reference, wanted);
     let whole = sound(t);
     let held = find(t, named);
     let free = place(t);
-    let c = choose(whole, event, held, free);
+    let c = choose(whole, wanted, held, free);
     c
 }

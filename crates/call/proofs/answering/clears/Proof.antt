@@ -18,9 +18,12 @@ saying-requires c κs = search needs
 bare-requires : tie.Need-bare-requires
 bare-requires c κs = search needs
 
+to-users-requires : tie.Need-to-users-requires
+to-users-requires c κs = search needs
+
 returns : tie.Need-returns
 unfolding clearsOf
-returns c = simp (c .bare .ensures, c .before .saying .ensures, c .before .before .declines .ensures, c .before .before .before .noted .ensures, c .before .before .before .before .in-phase .ensures)
+returns c = simp (c .to-users .ensures, c .before .bare .ensures, c .before .before .saying .ensures, c .before .before .before .declines .ensures, c .before .before .before .before .noted .ensures, c .before .before .before .before .before .in-phase .ensures)
 
 pub clears-spec : {M : Type 1} → statement M
 clears-spec =
@@ -31,4 +34,5 @@ clears-spec =
     declines-requires
     saying-requires
     bare-requires
+    to-users-requires
     returns)

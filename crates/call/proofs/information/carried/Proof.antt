@@ -42,12 +42,15 @@ to-sender-requires c κs = search needs
 to-receiver-requires : tie.Need-to-receiver-requires
 to-receiver-requires c κs = search needs
 
+carrier-of-requires : tie.Need-carrier-of-requires
+carrier-of-requires c κs = search needs
+
 reply-to-requires : tie.Need-reply-to-requires
 reply-to-requires c κs = search needs
 
 returns : tie.Need-returns
 unfolding carriedOf informationPassageOf
-returns c = simp (c .reply-to .ensures, c .before .to-receiver .ensures, c .before .before .to-sender .ensures, c .before .before .before .passage-answer .ensures, c .before .before .before .before .with-meters .ensures, c .before .before .before .before .before .spent .ensures, c .before .before .before .before .before .before .served .ensures, c .before .before .before .before .before .before .before .in-force2 .ensures, c .before .before .before .before .before .before .before .before .in-force .ensures, c .before .before .before .before .before .before .before .before .before .meter-of .ensures)
+returns c = simp (c .reply-to .ensures, c .before .carrier-of .ensures, c .before .before .to-receiver .ensures, c .before .before .before .to-sender .ensures, c .before .before .before .before .passage-answer .ensures, c .before .before .before .before .before .with-meters .ensures, c .before .before .before .before .before .before .spent .ensures, c .before .before .before .before .before .before .before .served .ensures, c .before .before .before .before .before .before .before .before .in-force2 .ensures, c .before .before .before .before .before .before .before .before .before .in-force .ensures, c .before .before .before .before .before .before .before .before .before .before .meter-of .ensures)
 
 pub carried-spec : {M : Type 1} → statement M
 carried-spec =
@@ -62,5 +65,6 @@ carried-spec =
     passage-answer-requires
     to-sender-requires
     to-receiver-requires
+    carrier-of-requires
     reply-to-requires
     returns)

@@ -21,9 +21,12 @@ ready-requires c κs = search needs
 ready-requires-2 : tie.Need-ready-requires-2
 ready-requires-2 c κs = search needs
 
+to-users-requires : tie.Need-to-users-requires
+to-users-requires c κs = search needs
+
 returns : tie.Need-returns
 unfolding passesTickOf runsOf
-returns c = simp (c .ready2 .ensures, c .before .ready .ensures, c .before .before .with-meters .ensures, c .before .before .before .refills .ensures, c .before .before .before .before .serves-three .ensures, c .before .before .before .before .before .in-force .ensures)
+returns c = simp (c .to-users .ensures, c .before .ready2 .ensures, c .before .before .ready .ensures, c .before .before .before .with-meters .ensures, c .before .before .before .before .refills .ensures, c .before .before .before .before .before .serves-three .ensures, c .before .before .before .before .before .before .in-force .ensures)
 
 pub passes-tick-spec : {M : Type 1} → statement M
 passes-tick-spec =
@@ -35,4 +38,5 @@ passes-tick-spec =
     with-meters-requires
     ready-requires
     ready-requires-2
+    to-users-requires
     returns)

@@ -2,17 +2,9 @@ use Rattle.table.specs.Choice.{chooseOf}
 use borrow.Author.Needs.{needs}
 use Rattle.table.proofs.choice.choose.Statement.{statement}
 use Rattle.table.proofs.choice.choose.Tie as tie
-use Rattle.table.proofs.choice.choose.Reads as reads
-use Rattle.table.proofs.choice.choose.Lts as lts
-use Rattle.table.proofs.choice.new_place.Reads as new-place-reads
-use Rattle.table.proofs.choice.old_place.Reads as old-place-reads
-use Rattle.table.proofs.choice.wants.Reads as wants-reads
 
-wants-requires : tie.Need-wants-requires
-wants-requires c κs = search needs
-
-enum-known-own : tie.Need-enum-known-own
-enum-known-own c = search needs
+enum-known-wanted : tie.Need-enum-known-wanted
+enum-known-wanted c = search needs
 
 new-place-requires : tie.Need-new-place-requires
 new-place-requires c κs = search needs
@@ -25,15 +17,15 @@ old-place-requires c κs = search needs
 
 returns : tie.Need-returns
 unfolding chooseOf
-returns c = simp (c .new-place .ensures, c .before .if2 .taken, c .before .before .before .own .given .1, ← (c .before .before .before .before .before .wants .ensures), c .before .before .before .before .before .before .if1 .taken)
+returns c = simp (c .new-place .ensures, c .before .if2 .taken, c .before .before .before .wanted .given .1, c .before .before .before .before .before .if1 .taken)
 
 returns-2 : tie.Need-returns-2
 unfolding chooseOf
-returns-2 c = simp (c .if2 .left, c .before .before .own .given .1, ← (c .before .before .before .before .wants .ensures), c .before .before .before .before .before .if1 .taken)
+returns-2 c = simp (c .if2 .left, c .before .before .wanted .given .1, c .before .before .before .before .if1 .taken)
 
 returns-3 : tie.Need-returns-3
 unfolding chooseOf
-returns-3 c = simp (c .old-place .ensures, c .before .enum-told .given .1, ← (c .before .before .before .wants .ensures), c .before .before .before .before .if1 .taken)
+returns-3 c = simp (c .old-place .ensures, c .before .enum-told .given .1, c .before .before .before .if1 .taken)
 
 returns-4 : tie.Need-returns-4
 unfolding chooseOf
@@ -43,8 +35,7 @@ pub choose-spec : {M : Type 1} → statement M
 choose-spec =
     tie.close
     (tie.spec
-    wants-requires
-    enum-known-own
+    enum-known-wanted
     new-place-requires
     enum-told
     old-place-requires
