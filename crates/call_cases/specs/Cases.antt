@@ -44,8 +44,8 @@ outcomeOf r =
       answer = numberOf (r .answer);
       note = noteNumberOf (r .note);
       phase = r .call .phase;
-      calling = glimpseOf (r .calling);
-      called = glimpseOf (r .called);
+      calling = glimpseOf (r .dispatch .calling);
+      called = glimpseOf (r .dispatch .called);
     }
 
 -- a run from a fresh record, the event that follows it, and what this event gives

@@ -52,7 +52,7 @@ use Rattle.call.specs.Disconnect.{oneAfterOf, closedCallOf, passedOnOf, disconn
 use Rattle.call.specs.Facility.{facilityVerdictOf, facilityCallOf, passesFacilityOf, facilityOf}
 use Rattle.call.specs.Information.{metersOf, informationPassageOf, carriedOf, withElementOf, informationOf}
 use Rattle.call.specs.Reply.{refusedOf, replyOf}
-use Rattle.call.specs.Setup.{filledOf, proceedsOf, setupOf}
+use Rattle.call.specs.Setup.{proceedsOf, setupOf}
 use Rattle.call.specs.Sound.{freshCall, soundOf, inPhaseOf}
 use Rattle.call.specs.Step.{notAnEventOf, stepOf}
 use Rattle.call.specs.Tick.{runsOf, passesTickOf, tickOf}
@@ -62,7 +62,8 @@ use Rattle.call_promises.specs.Numbers.{Core, Allowed, Has, ServesThree,
 use Rattle.call_promises.specs.Notes.{LacksRequired, Open}
 use Rattle.call_promises.specs.Handling.{Explicit, Implied}
 use Rattle.call_promises.specs.Sends.{Hears, Counts, FailsAt, Intact, CountPays, CreditPays, FirstDropped, Agreed, Accepting}
-use Rattle.call_promises.specs.Becomes.{altered, turnedTo, withMeter, askingFrom, topped, toppedBoth, Stands, unasked, preferred, required, implicit, lacking, Opens, ended, requested, newRecord, Earns, earns, earns-not, Answered, on, clears, Last, accepted, as-before, TickAdds, adds, tops, Becomes, setup, alerting, connect, counts, pays, marks, drops, asks, accepts, rejects, refuses, disconnect, release, ticks, rests, NextRecord, acts, bars, IsTheRecord, BecomesExactly, Leads, stays, goes, History}
+use Rattle.call_promises.specs.Refusals.{altered}
+use Rattle.call_promises.specs.Becomes.{turnedTo, withMeter, askingFrom, topped, toppedBoth, Stands, unasked, preferred, required, implicit, lacking, Opens, ended, requested, newRecord, Earns, earns, earns-not, Answered, on, clears, Last, accepted, as-before, TickAdds, adds, tops, Becomes, setup, alerting, connect, counts, pays, marks, drops, asks, accepts, rejects, refuses, disconnect, release, ticks, rests, NextRecord, acts, bars, IsTheRecord, BecomesExactly, Leads, stays, goes, History}
 use Rattle.call_promises.proofs.Conditions.{has, serves-three}
 use Rattle.call_promises.proofs.Notes.{lacks}
 use Rattle.call_promises.proofs.Phases.{fresh, connectable, talking, active, up, live}
@@ -178,7 +179,7 @@ module _ (c : Call) (n : ℕ) (r : Rights) (q : Requests) (l : List ℕ) where
       λ j. newRecord n r (opens-one o j) (stands-one r Service.One im is-implied (q .one) (implied-unasked (q .one) seen) x j) (asked-one r Service.Two (q .two) y j) (asked-one r Service.Three (q .three) z j)
 
   setup-left : IsTheRecord (Becomes c l (Event.Setup n r q)) (proceedsOf n r q seen .call)
-  unfolding proceedsOf filledOf standingsOf firstStandingOf nobodyAsks emptyMeters emptyOf
+  unfolding proceedsOf standingsOf firstStandingOf nobodyAsks emptyMeters emptyOf
   setup-left =
       left-by opened refl
       (setup opens-is (first-is r Service.One im is-implied (q .one) (implied-unasked (q .one) seen)) (asked-is r Service.Two (q .two)) (asked-is r Service.Three (q .three)))

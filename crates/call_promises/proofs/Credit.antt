@@ -51,7 +51,7 @@ use Rattle.call.specs.Disconnect.{closedCallOf, passedOnOf, disconnectOf, endsO
 use Rattle.call.specs.Facility.{facilityVerdictOf, facilityCallOf, passesFacilityOf, facilityOf}
 use Rattle.call.specs.Information.{metersOf, informationPassageOf, carriedOf, withElementOf, informationOf}
 use Rattle.call.specs.Reply.{barOf, refusedOf, heardOf, replyOf}
-use Rattle.call.specs.Setup.{filledOf, proceedsOf, setupOf}
+use Rattle.call.specs.Setup.{proceedsOf, setupOf}
 use Rattle.call.specs.Sound.{soundOf, freshCall, inPhaseOf}
 use Rattle.rights.specs.Rights.{noRights}
 use Rattle.call.specs.Step.{notAnEventOf, stepOf}
@@ -168,7 +168,7 @@ asked-idle Request.Required true = refl
 asked-idle Request.Required false = refl
 
 setup-agrees : (reference : ℕ) (r : Rights) (q : Requests) (seen : Seen) → Agrees (begins r (remaining r q) (cond (lacks r q) Phase.Ended Phase.Requested)) (proceedsOf reference r q seen .call)
-unfolding proceedsOf filledOf setupPhaseOf standingsOf emptyMeters emptyOf nobodyAsks
+unfolding proceedsOf setupPhaseOf standingsOf emptyMeters emptyOf nobodyAsks
 setup-agrees reference r q seen =
     record {
       requests = remaining r q;

@@ -40,7 +40,7 @@ use Rattle.call.specs.Disconnect.{closedCallOf, passedOnOf, disconnectOf, endsO
 use Rattle.call.specs.Facility.{facilityVerdictOf, facilityCallOf, passesFacilityOf, facilityOf}
 use Rattle.call.specs.Information.{metersOf, informationPassageOf, carriedOf, withElementOf, informationOf}
 use Rattle.call.specs.Reply.{refusedOf, replyOf}
-use Rattle.call.specs.Setup.{filledOf, proceedsOf, setupOf}
+use Rattle.call.specs.Setup.{proceedsOf, setupOf}
 use Rattle.call.specs.Sound.{freshCall, inPhaseOf}
 use Rattle.call.specs.Step.{notAnEventOf, stepOf}
 use Rattle.call.specs.Tick.{passesTickOf, tickOf}
@@ -151,7 +151,7 @@ module _ (reference : ℕ) (rights : Rights) (q : Requests) (l : List ℕ) where
   setup-came Service.Three i = absurd (not-in-force (q .three) (hasOf rights Service.Three) i)
 
   setup-traces : (c : Call) (k : Service) → TracesOf c k (Event.Setup reference rights q) l (proceedsOf reference rights q (seenOf l (rights .limit)))
-  unfolding proceedsOf filledOf
+  unfolding proceedsOf
   setup-traces c k =
       record {
         asked = ⊎-elim (λ w. let t = setup-asked k w in inr (refl, t .0, t .1)) (λ x. absurd (nobody k x));

@@ -22,6 +22,7 @@ use Rattle.answer.specs.declared.Answer.{Answer}
 use Rattle.message_types.specs.declared.Kind.{Kind}
 use Rattle.sent.specs.declared.Message.{Message}
 use Rattle.sent.specs.declared.Sent.{Sent}
+use Rattle.sent.specs.declared.dispatch.Carrier.{Carrier}
 use Rattle.phases.specs.declared.Phase.{Phase}
 use Rattle.sent.specs.declared.side.Side.{Side}
 use Rattle.call.specs.declared.Call.{Call}
@@ -42,7 +43,7 @@ use Rattle.call.specs.Facility.{passesFacilityOf, facilityOf}
 use Rattle.flow_meter.specs.CallMeters.{meterOf, readyOf}
 use Rattle.call.specs.Information.{informationPassageOf, carriedOf, withElementOf, informationOf}
 use Rattle.call.specs.Reply.{refusedOf, replyOf}
-use Rattle.call.specs.Setup.{filledOf, proceedsOf, setupOf}
+use Rattle.call.specs.Setup.{proceedsOf, setupOf}
 use Rattle.call.specs.Step.{notAnEventOf, stepOf}
 use Rattle.call.specs.Tick.{passesTickOf, tickOf}
 use Rattle.call_promises.specs.Numbers.{WellFormed, InForce, Has, ServesTwo, ServesThree, meterFrom, other}
@@ -144,7 +145,7 @@ unfolding setupCarriesOf
 setup-goes rights q s h = both _ _ (as-is (not (lacksOf rights q))) (as-is (remainsOf (standingsOf rights q s .one))) .so h .0
 
 setup-passes : (c : Call) (reference : ℕ) (rights : Rights) (q : Requests) (l : List ℕ) → Passes c (Event.Setup reference rights q) l (proceedsOf reference rights q (seenOf l (rights .limit)))
-unfolding proceedsOf filledOf setupPhaseOf toCallerOf toCalledOf sayingOf
+unfolding proceedsOf setupPhaseOf toCallerOf toCalledOf sayingOf
 setup-passes c reference rights q l =
     record {
       to = Side.Called;
@@ -179,10 +180,10 @@ module _ (c : Call) (e : Event) (l : List ℕ) (kind : Kind) (next : Phase) (f :
   answered-passes = outcome-passes (failedOf f)
 
 -- a reply to one side's event, whose message to that side has no element
-side-passes : (c : Call) (e : Event) (l : List ℕ) (side : Side) (d : Call) (a : Answer) (note : Note) (back on : Sent) → Plain back → Way e (other side) l (limitFor c e) (Under c l d e) ((numberOf a ≡ 0) × (noteNumberOf note ≡ 0)) on → Passes c e l (replyOf side d a note back on)
+side-passes : (c : Call) (e : Event) (l : List ℕ) (side : Side) (d : Call) (a : Answer) (note : Note) (back on : Sent) (x : Carrier) → Plain back → Way e (other side) l (limitFor c e) (Under c l d e) ((numberOf a ≡ 0) × (noteNumberOf note ≡ 0)) on → Passes c e l (replyOf side d a note back on x)
 unfolding replyOf
-side-passes c e l Side.Calling d a note back on p w = record { to = Side.Called; on = w; back = p }
-side-passes c e l Side.Called d a note back on p w = record { to = Side.Calling; on = w; back = p }
+side-passes c e l Side.Calling d a note back on x p w = record { to = Side.Called; on = w; back = p }
+side-passes c e l Side.Called d a note back on x p w = record { to = Side.Calling; on = w; back = p }
 
 -- USER INFORMATION
 passage-taken : (p : Passage) → Decides (passesOf p) (numberOf (passageAnswerOf p) ≡ 0)
@@ -222,7 +223,7 @@ module _ (c : Call) (side : Side) where
     carried-passes : Sight l (c .rights .limit) Seen.Whole → Passes c (Event.Information side more) l (carriedOf c side more (informationPassageOf c side))
     unfolding carriedOf onlyIfOf informsOf congestionOf
     carried-passes (whole z w k) =
-        side-passes c _ l side _ _ _ _ _ (by-cond Plain (marksOf (informationPassageOf c side)) (λ _. refl) (λ _. tt))
+        side-passes c _ l side _ _ _ _ _ _ (by-cond Plain (marksOf (informationPassageOf c side)) (λ _. refl) (λ _. tt))
         (by-cond (Way _ _ l _ _ _) (passesOf (informationPassageOf c side))
         (λ h. goes refl information w k (served-under (passage-served h)) (passage-taken (informationPassageOf c side) .so h, refl))
         (λ h. plain tt (λ _ n. never (passage-taken (informationPassageOf c side) .back (n .0)) h)))
@@ -246,12 +247,12 @@ passes c (Event.Information side more) l =
     heard-passes c _ l _ _ _ (heard c _ _ _) (information-passes c side more l (sight l (c .rights .limit)))
 passes c (Event.Facility side what) l =
     heard-passes c _ l _ _ _ (heard c _ _ _)
-    (side-passes c _ l side _ _ _ _ _ (only-plain _ _ refl) (plain (only-plain _ _ refl) (λ o _. o .0 tt)))
+    (side-passes c _ l side _ _ _ _ _ _ (only-plain _ _ refl) (plain (only-plain _ _ refl) (λ o _. o .0 tt)))
 passes c (Event.Disconnect side cause answers) l =
     heard-passes c _ l _ _ _ (heard c _ _ _)
-    (side-passes c _ l side _ _ _ _ _ tt (saying-way _ _ l (c .rights .limit) _ _ _ _ disconnect (λ _ _ _ h. cleared refl (in-force _ .so h))))
+    (side-passes c _ l side _ _ _ _ _ _ tt (saying-way _ _ l (c .rights .limit) _ _ _ _ disconnect (λ _ _ _ h. cleared refl (in-force _ .so h))))
 passes c (Event.ReleaseComplete side) l =
-    heard-passes c _ l _ _ _ (heard c _ _ _) (side-passes c _ l side _ _ _ _ _ tt (plain refl (λ o _. o .0 tt)))
+    heard-passes c _ l _ _ _ (heard c _ _ _) (side-passes c _ l side _ _ _ _ _ _ tt (plain refl (λ o _. o .0 tt)))
 passes c Event.Tick l =
     heard-passes c _ l _ _ _ (heard c _ _ _)
     (record { to = Side.Called; on = plain (only-plain _ _ refl) (λ o _. o .0 tt); back = only-plain _ _ refl })
@@ -264,10 +265,10 @@ module _ (c : Call) (e : Event) (l : List ℕ) where
   OnTheWay to s = Way e to l (limitFor c e) (Under c l (stepOf c e l .call) e) (Unnoted (stepOf c e l)) s
 
   none : (side to : Side) → Plain (sentTo (stepOf c e l) to) → Plain (sentTo (stepOf c e l) (other to)) → handedIn (sentTo (stepOf c e l) side) l ≡ []
-  none Side.Calling Side.Calling p b = plain-empty (stepOf c e l .calling) l p
-  none Side.Called Side.Called p b = plain-empty (stepOf c e l .called) l p
-  none Side.Calling Side.Called p b = plain-empty (stepOf c e l .calling) l b
-  none Side.Called Side.Calling p b = plain-empty (stepOf c e l .called) l b
+  none Side.Calling Side.Calling p b = plain-empty (stepOf c e l .dispatch .calling) l p
+  none Side.Called Side.Called p b = plain-empty (stepOf c e l .dispatch .called) l p
+  none Side.Calling Side.Called p b = plain-empty (stepOf c e l .dispatch .calling) l b
+  none Side.Called Side.Calling p b = plain-empty (stepOf c e l .dispatch .called) l b
 
   entire : (to : Side) (m : Message) → sentTo (stepOf c e l) to ≡ Sent.Present m → m .element ≡ true → Goes e to (m .kind) (m .more) → WellFormed l → length l ≤ limitFor c e → Plain (sentTo (stepOf c e l) (other to)) → HandedWhole stepOf c e l to
   entire to m h t g w k b =
@@ -294,8 +295,8 @@ module _ (c : Call) (e : Event) (l : List ℕ) where
   reaches : (side to : Side) → OnTheWay to (sentTo (stepOf c e l) to) → Plain (sentTo (stepOf c e l) (other to)) → (handedIn (sentTo (stepOf c e l) side) l ≡ [] → ⊥) → HandedWhole stepOf c e l side × Under c l (stepOf c e l .call) e
   reaches Side.Calling Side.Calling w b n = way-whole Side.Calling refl w b n
   reaches Side.Called Side.Called w b n = way-whole Side.Called refl w b n
-  reaches Side.Calling Side.Called w b n = absurd (n (plain-empty (stepOf c e l .calling) l b))
-  reaches Side.Called Side.Calling w b n = absurd (n (plain-empty (stepOf c e l .called) l b))
+  reaches Side.Calling Side.Called w b n = absurd (n (plain-empty (stepOf c e l .dispatch .calling) l b))
+  reaches Side.Called Side.Calling w b n = absurd (n (plain-empty (stepOf c e l .dispatch .called) l b))
 
 handled : (c : Call) (e : Event) (l : List ℕ) (side : Side) → (handedIn (sentTo (stepOf c e l) side) l ≡ [] → ⊥) → HandedWhole stepOf c e l side × Under c l (stepOf c e l .call) e
 handled c e l side = let p = passes c e l in reaches c e l side (p .to) (p .on) (p .back)

@@ -33,7 +33,7 @@ use Rattle.call.specs.Disconnect.{closedCallOf, passedOnOf, disconnectOf, endsO
 use Rattle.call.specs.Facility.{facilityCallOf, passesFacilityOf, facilityOf}
 use Rattle.call.specs.Information.{metersOf, informationPassageOf, carriedOf, withElementOf, informationOf}
 use Rattle.call.specs.Reply.{refusedOf, heardOf, replyOf}
-use Rattle.call.specs.Setup.{filledOf, proceedsOf}
+use Rattle.call.specs.Setup.{proceedsOf}
 use Rattle.call.specs.Sound.{inPhaseOf}
 use Rattle.call.specs.Step.{notAnEventOf, stepOf}
 use Rattle.call.specs.Tick.{runsOf, passesTickOf, tickOf}
@@ -187,7 +187,7 @@ module _ (c : Call) where
 
 -- a SETUP in range fills the whole record
 pub setup-in : (reference : ℕ) (rights : Rights) (q : Requests) (seen : Seen) → ReferenceInRange reference → RightsInRange rights → InRangeCall (proceedsOf reference rights q seen .call)
-unfolding proceedsOf filledOf emptyMeters emptyOf
+unfolding proceedsOf emptyMeters emptyOf
 setup-in reference rights q seen n r =
     record {
       reference = n;

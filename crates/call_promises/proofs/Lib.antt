@@ -17,5 +17,6 @@ pub mod MoreRights
 pub mod Required
 pub mod Parts
 pub mod Sends
+pub mod Carriers
 pub mod Becomes
 pub mod LentMeter

@@ -25,6 +25,7 @@ use Rattle.facility_rules.specs.declared.What.{What}
 use Rattle.message_types.specs.declared.Kind.{Kind}
 use Rattle.sent.specs.declared.Level.{Level}
 use Rattle.sent.specs.declared.Sent.{Sent}
+use Rattle.sent.specs.declared.dispatch.Carrier.{Carrier}
 use Rattle.phases.specs.declared.Phase.{Phase}
 use Rattle.sent.specs.declared.side.Side.{Side}
 use Rattle.call.specs.declared.Call.{Call}
@@ -53,7 +54,8 @@ use Rattle.call.specs.Facility.{facilityVerdictOf, facilityCallOf, passesFacili
 use Rattle.flow_meter.specs.CallMeters.{meterOf, withMeterOf, emptyMeters, refillsOf, readyOf, tickedMetersOf}
 use Rattle.call.specs.Information.{metersOf, informationPassageOf, carriedOf, withElementOf, informationOf}
 use Rattle.call.specs.Reply.{barOf, refusedOf, heardOf, replyOf}
-use Rattle.call.specs.Setup.{filledOf, proceedsOf, setupOf}
+use Rattle.call.specs.Setup.{proceedsOf, setupOf}
+use Rattle.call.specs.Records.{openedOf}
 use Rattle.call.specs.Sound.{soundOf, freshCall, inPhaseOf}
 use Rattle.call.specs.Step.{notAnEventOf, stepOf}
 use Rattle.call.specs.Tick.{runsOf, passesTickOf, tickOf}
@@ -93,13 +95,13 @@ data Stage (c d : Call) : Type 0 where
 
 record Both (p q : Reply) : Type 0 where
   stage : Stage (p .call) (q .call)
-  calling : Gives (p .calling) (q .calling)
-  called : Gives (p .called) (q .called)
+  calling : Gives (p .dispatch .calling) (q .dispatch .calling)
+  called : Gives (p .dispatch .called) (q .dispatch .called)
 
 record Silent (p : Reply) : Type 0 where
   phase : overOf (p .call .phase) ≡ true
-  calling : carriesOf (p .calling) ≡ false
-  called : carriesOf (p .called) ≡ false
+  calling : carriesOf (p .dispatch .calling) ≡ false
+  called : carriesOf (p .dispatch .called) ≡ false
 
 from-silent : (p q : Reply) → Silent p → Both p q
 from-silent p q s =
@@ -128,10 +130,10 @@ about : (b : Bool) (s : Said) → carriesOf (onlyIfOf b (aboutThreeOf s)) ≡ fa
 unfolding aboutThreeOf sayingOf
 about b s = unsaid b _ refl
 
-replies : (side : Side) (c d : Call) (a a' : Answer) (n n' : Note) (s s' t t' : Sent) → Stage c d → Gives s s' → Gives t t' → Both (replyOf side c a n s t) (replyOf side d a' n' s' t')
+replies : (side : Side) (c d : Call) (a a' : Answer) (n n' : Note) (s s' t t' : Sent) (x y : Carrier) → Stage c d → Gives s s' → Gives t t' → Both (replyOf side c a n s t x) (replyOf side d a' n' s' t' y)
 unfolding replyOf
-replies Side.Calling c d a a' n n' s s' t t' st f g = record { stage = st; calling = f; called = g }
-replies Side.Called c d a a' n n' s s' t t' st f g = record { stage = st; calling = g; called = f }
+replies Side.Calling c d a a' n n' s s' t t' x y st f g = record { stage = st; calling = f; called = g }
+replies Side.Called c d a a' n n' s s' t t' x y st f g = record { stage = st; calling = g; called = f }
 
 -- the tests that come first
 truth : (b : Bool) → (b ≡ false → ⊥) → b ≡ true
@@ -252,8 +254,8 @@ module _ (r r' : Rights) (n : NoLess r r') where
   empty-poor : (two : Side → Bool) (three : Bool) → Poor two three emptyMeters emptyMeters
   empty-poor two three side = record { credit = λ _. omega arith; count = λ _. omega arith }
 
-  filled-below : (reference : ℕ) (q : Requests) (seen : Seen) → lacksOf r q ≡ false → Below (filledOf reference r Phase.Requested (standingsOf r q seen)) (filledOf reference r' Phase.Requested (standingsOf r' q seen))
-  unfolding filledOf standingsOf
+  filled-below : (reference : ℕ) (q : Requests) (seen : Seen) → lacksOf r q ≡ false → Below (openedOf reference r Phase.Requested (standingsOf r q seen)) (openedOf reference r' Phase.Requested (standingsOf r' q seen))
+  unfolding standingsOf
   filled-below reference q seen h =
       let t = lacks-none q h in
       record {
@@ -266,7 +268,7 @@ module _ (r r' : Rights) (n : NoLess r r') where
       }
 
   setup-by : (reference : ℕ) (q : Requests) (seen : Seen) (b : Bool) → lacksOf r q ≡ b → Both (proceedsOf reference r q seen) (proceedsOf reference r' q seen)
-  unfolding proceedsOf setupPhaseOf toCallerOf toCalledOf sayingOf goesOutOf setupCarriesOf filledOf
+  unfolding proceedsOf setupPhaseOf toCallerOf toCalledOf sayingOf goesOutOf setupCarriesOf
   setup-by reference q seen true h = from-silent _ _ (rw h (record { phase = refl; calling = refl; called = refl }))
   setup-by reference q seen false h =
       let b = filled-below reference q seen h in
@@ -429,7 +431,7 @@ module _ (c d : Call) (u : upOf (c .phase) ≡ true) (b : Below c d) where
   unfolding carriedOf
   carried side more h =
       let t = served side h in
-      replies side _ _ _ _ _ _ _ _ _ _ (moved-stage _ _ (with-poor _ _ _ _ side _ _ (b .meters) (t .1)))
+      replies side _ _ _ _ _ _ _ _ _ _ _ _ (moved-stage _ _ (with-poor _ _ _ _ side _ _ (b .meters) (t .1)))
       (λ x. never x (congested _ _)) (λ x. informed _ more ∙ t .0 (sym (informed _ more) ∙ x))
 
   information : (side : Side) (more : Bool) (l : List ℕ) → talkingOf (c .phase) ≡ true → Both (withElementOf c (seenOf l (c .rights .limit)) (carriedOf c side more (informationPassageOf c side))) (withElementOf d (seenOf l (d .rights .limit)) (carriedOf d side more (informationPassageOf d side)))
@@ -461,7 +463,7 @@ module _ (c d : Call) (u : upOf (c .phase) ≡ true) (b : Below c d) where
   closed : (side : Side) (cause : ℕ) (a : Answers) (seen : Seen) → Both (passedOnOf c side cause a seen) (passedOnOf d side cause a seen)
   unfolding passedOnOf closedCallOf sayingOf goesOutOf
   closed side cause a seen =
-      replies side _ _ _ _ _ _ _ _ _ _ (over refl) (λ x. x) (λ x. and-right (wholeOf seen) _ _ (closing-up _ _ (a .one) (b .one)) x)
+      replies side _ _ _ _ _ _ _ _ _ _ _ _ (over refl) (λ x. x) (λ x. and-right (wholeOf seen) _ _ (closing-up _ _ (a .one) (b .one)) x)
 
   disconnected : (side : Side) (cause : ℕ) (a : Answers) (l : List ℕ) → Both (passedOnOf c side cause a (seenOf l (c .rights .limit))) (passedOnOf d side cause a (seenOf l (d .rights .limit)))
   disconnected side cause a l = rw (seen-same l) (closed side cause a _)
@@ -526,7 +528,7 @@ module _ (c d : Call) (u : upOf (c .phase) ≡ true) (b : Below c d) where
   facility : (side : Side) (what : What) → Both (passesFacilityOf c side what (facilityVerdictOf c side what)) (passesFacilityOf d side what (facilityVerdictOf d side what))
   unfolding passesFacilityOf
   facility side what =
-      replies side _ _ _ _ _ _ _ _ _ _ (facility-stage side what (b .three)) (λ x. never x (about _ _)) (λ x. never x (about _ _))
+      replies side _ _ _ _ _ _ _ _ _ _ _ _ (facility-stage side what (b .three)) (λ x. never x (about _ _)) (λ x. never x (about _ _))
 
   -- ALERTING and CONNECT
   outcome : (kind : Kind) (next : Phase) (f f' : Fates) (seen : Seen) (x : Cause) → upOf next ≡ true → Below (answeredCallOf c next f) (answeredCallOf d next f') → Both (answeringOf c kind next f seen x) (answeringOf d kind next f' seen x)
@@ -677,7 +679,7 @@ module _ (r r' : Rights) (n : NoLess r r') where
       let q = stepOf d (eventWith r' (o .event)) (o .element) in
       let s = step r r' n c d (o .event) (o .element) w w' st in
       let t = runs _ _ os (step-in c (eventWith r (o .event)) (o .element) w) (step-in d (eventWith r' (o .event)) (o .element) w') (s .stage) in
-      (also (kept (p .calling) (q .calling) (o .element) (s .calling)) (kept (p .called) (q .called) (o .element) (s .called)) (t .0), t .1)
+      (also (kept (p .dispatch .calling) (q .dispatch .calling) (o .element) (s .calling)) (kept (p .dispatch .called) (q .dispatch .called) (o .element) (s .called)) (t .0), t .1)
 
 fresh-good : Good freshCall
 unfolding freshCall

@@ -36,7 +36,7 @@ use Rattle.call.specs.Disconnect.{closedCallOf, passedOnOf, disconnectOf, endsO
 use Rattle.call.specs.Facility.{facilityCallOf, passesFacilityOf, facilityOf}
 use Rattle.call.specs.Information.{metersOf, informationPassageOf, carriedOf, withElementOf, informationOf}
 use Rattle.call.specs.Reply.{refusedOf, replyOf}
-use Rattle.call.specs.Setup.{filledOf, proceedsOf, setupOf}
+use Rattle.call.specs.Setup.{proceedsOf, setupOf}
 use Rattle.call.specs.Sound.{freshCall, inPhaseOf}
 use Rattle.call.specs.Step.{notAnEventOf, stepOf}
 use Rattle.call.specs.Tick.{passesTickOf, tickOf}
@@ -96,13 +96,13 @@ had-required q true e h = rw e refl
 had-required q false e h = never (rw e refl) h
 
 asked-standing : (reference : ℕ) (rights : Rights) (q : Requests) (seen : Seen) (k : Service) → requestFor q k ≡ Request.Required → lackOf rights q k ≡ false → standingFor (proceedsOf reference rights q seen .call .standings) k ≡ Standing.Required
-unfolding proceedsOf filledOf standingsOf firstStandingOf
+unfolding proceedsOf standingsOf firstStandingOf
 asked-standing reference rights q seen Service.One e h = rw e (rw e at (had-required _ _ e h))
 asked-standing reference rights q seen Service.Two e h = had-required _ _ e h
 asked-standing reference rights q seen Service.Three e h = had-required _ _ e h
 
 setup-due : (reference : ℕ) (rights : Rights) (q : Requests) (seen : Seen) (k : Service) → requestFor q k ≡ Request.Required → DueIn k (proceedsOf reference rights q seen .call)
-unfolding proceedsOf filledOf setupPhaseOf
+unfolding proceedsOf setupPhaseOf
 setup-due reference rights q seen k e =
     by-cond (λ p. Due k p (standingFor (proceedsOf reference rights q seen .call .standings) k)) (lacksOf rights q) (λ _. tt)
     (λ h. asked-standing reference rights q seen k e (lacks-false rights q k h))
@@ -252,7 +252,7 @@ lacks rights q (inr (inl x)) h = lack rights Service.Two _ x (lacks-false rights
 lacks rights q (inr (inr x)) h = lack rights Service.Three _ x (lacks-false rights q Service.Three h)
 
 setup-fails : (reference : ℕ) (rights : Rights) (q : Requests) (seen : Seen) → LacksRequired rights q → proceedsOf reference rights q seen .call .phase ≡ Phase.Ended
-unfolding proceedsOf filledOf setupPhaseOf
+unfolding proceedsOf setupPhaseOf
 setup-fails reference rights q seen x =
     by-cond (λ p. p ≡ Phase.Ended) (lacksOf rights q) (λ _. refl) (λ h. absurd (lacks rights q x h))
 

@@ -28,6 +28,7 @@ use Rattle.phases.specs.Phase.{requestedOf}
 use Rattle.sent.specs.declared.Level.{Level}
 use Rattle.sent.specs.declared.Message.{Message}
 use Rattle.sent.specs.declared.Sent.{Sent}
+use Rattle.sent.specs.declared.dispatch.Carrier.{Carrier}
 use Rattle.sent.specs.declared.side.Side.{Side}
 use Rattle.sent.specs.Message.{silence, sayingOf, bareOf, congestionOf, informsOf, onlyIfOf}
 use Rattle.event.specs.declared.Event.{Event}
@@ -98,12 +99,12 @@ let-told c e l Side.Calling a g r (stopped n b) x f m = unheard c e l Side.Calli
 let-told c e l Side.Called a g r (stopped n b) x f m = unheard c e l Side.Called a g n x m
 
 -- a reply to one side's event
-reply-told : (P : Side → Message → Type 0) (side : Side) (d : Call) (a : Answer) (note : Note) (back far : Sent) → IsWhatIsSent (P side) back → IsWhatIsSent (P (other side)) far → (to : Side) → IsWhatIsSent (P to) (sentTo (replyOf side d a note back far) to)
+reply-told : (P : Side → Message → Type 0) (side : Side) (d : Call) (a : Answer) (note : Note) (back far : Sent) (x : Carrier) → IsWhatIsSent (P side) back → IsWhatIsSent (P (other side)) far → (to : Side) → IsWhatIsSent (P to) (sentTo (replyOf side d a note back far x) to)
 unfolding replyOf
-reply-told P Side.Calling d a note back far p q Side.Calling = p
-reply-told P Side.Calling d a note back far p q Side.Called = q
-reply-told P Side.Called d a note back far p q Side.Calling = q
-reply-told P Side.Called d a note back far p q Side.Called = p
+reply-told P Side.Calling d a note back far x p q Side.Calling = p
+reply-told P Side.Calling d a note back far x p q Side.Called = q
+reply-told P Side.Called d a note back far x p q Side.Calling = q
+reply-told P Side.Called d a note back far x p q Side.Called = p
 
 not-other : (side : Side) → side ≡ other side → ⊥
 not-other Side.Calling e = let z : _≡_ {A = ℕ} 0 1 = cc in omega arith
@@ -248,14 +249,14 @@ module _ (c : Call) (l : List ℕ) (e : Event) (kind : Kind) (next : Phase) (f :
 wrapped : {P Q : Message → Type 0} {s : Sent} → ((m : Message) → P m → Q m) → ((m : Message) → Q m → P m) → IsWhatIsSent P s → IsWhatIsSent Q s
 wrapped f g t m = ((λ h. f m (t m .0 h)), (λ q. t m .1 (g m q)))
 
-abbrev carrying : Standing → Fates → Bool
+abbrev pub carrying : Standing → Fates → Bool
 carrying s f = not (failsOf (failedOf f)) && inForceOf (settledOf s (f .one))
 
-alerting-denies : (c : Call) (a : Answers) → Denies (carrying (c .standings .one) (alertingFatesOf (c .standings) a)) (NotCarried c (Event.Alerting a))
+pub alerting-denies : (c : Call) (a : Answers) → Denies (carrying (c .standings .one) (alertingFatesOf (c .standings) a)) (NotCarried c (Event.Alerting a))
 unfolding carriesOf
 alerting-denies c a = alerting-carries c a
 
-connect-denies : (c : Call) (a : Answers) → Denies (carrying (c .standings .one) (connectFatesOf (not (requestedOf (c .phase))) (c .standings) a)) (NotCarried c (Event.Connect a))
+pub connect-denies : (c : Call) (a : Answers) → Denies (carrying (c .standings .one) (connectFatesOf (not (requestedOf (c .phase))) (c .standings) a)) (NotCarried c (Event.Connect a))
 unfolding carriesOf
 connect-denies c a = connect-carries c a
 
@@ -343,7 +344,7 @@ module _ (c : Call) (l : List ℕ) (side : Side) (more : Bool) where
   carried-told : Intact c l → (to : Side) → IsWhatIsSent (Sends c l informs to) (sentTo (carriedOf c side more (informationPassageOf c side)) to)
   unfolding carriedOf
   carried-told i to =
-      let x = met c l side i in reply-told (Sends c l informs) side _ _ _ _ _ (sender-told x) (receiver-told x) to
+      let x = met c l side i in reply-told (Sends c l informs) side _ _ _ _ _ _ (sender-told x) (receiver-told x) to
 
   information-told : {s : Seen} → Sight l (c .rights .limit) s → (to : Side) → IsWhatIsSent (Sends c l informs to) (sentTo (withElementOf c s (carriedOf c side more (informationPassageOf c side))) to)
   unfolding withElementOf
@@ -405,7 +406,7 @@ module _ (c : Call) (l : List ℕ) (side : Side) where
   facility-told what to =
       let v = facilityVerdictOf c side what in
       let x = verdict c l side what in
-      reply-told (Sends c l (says what)) side _ _ _ _ _ (asker-told what v x) (other-told what v x) to
+      reply-told (Sends c l (says what)) side _ _ _ _ _ _ (asker-told what v x) (other-told what v x) to
 
 -- ---- DISCONNECT and RELEASE COMPLETE
 
@@ -507,7 +508,7 @@ module _ (c : Call) (l : List ℕ) (side : Side) (cause : ℕ) (a : Answers) whe
   disconnect-told to =
       let s = sight l (c .rights .limit) in
       let b = rides c clearing l (inForceOf (oneAfterOf c (heardAnswersOf side a))) s (λ _. denies _ (disconnect-comes side (c .standings .one) a)) in
-      reply-told (Sends c l clearing) side _ _ _ _ _ (told-none refl not-back)
+      reply-told (Sends c l clearing) side _ _ _ _ _ _ (told-none refl not-back)
       (told-by (last _) refl (disconnect refl (word-is c side a Service.One) (word-is c side a Service.Two) (word-is c side a Service.Three) b) (disconnect-one _ b)) to
 
 module _ (c : Call) (l : List ℕ) (side : Side) where
@@ -520,7 +521,7 @@ module _ (c : Call) (l : List ℕ) (side : Side) where
   release-told : (to : Side) → IsWhatIsSent (Sends c l (Event.ReleaseComplete side) to) (sentTo (endsOf c side) to)
   unfolding endsOf bareOf sayingOf silence
   release-told to =
-      reply-told (Sends c l (Event.ReleaseComplete side)) side _ _ _ _ _ (told-none refl not-released)
+      reply-told (Sends c l (Event.ReleaseComplete side)) side _ _ _ _ _ _ (told-none refl not-released)
       (told-by (curt Kind.ReleaseComplete Cause.Absent) refl (release refl) release-one) to
 
 -- ---- a tick

@@ -24,24 +24,13 @@ use Rattle.call.specs.declared.Call.{Call}
 use Rattle.event.specs.declared.Event.{Event}
 use Rattle.call_promises.specs.Numbers.{Core, Has, ServesThree, meterFrom, other}
 use Rattle.call_promises.specs.Notes.{LacksRequired}
+use Rattle.call_promises.specs.Refusals.{altered}
 use Rattle.call_promises.specs.Handling.{Explicit, Implied}
 use Rattle.call_promises.specs.Sends.{Hears, Counts, Settles, FailsAt, CountPays, CreditPays, FirstDropped, Agreed, Accepting}
 use Rattle.call_promises.specs.Sound.{Offered, runOf}
 use Rattle.call.specs.Sound.{freshCall}
 
--- the record with other fields; its reference and its rights stay for the whole call
-abbrev pub altered : Call → Phase → Standings → Asking → Meters → Call
-altered c phase standings asking meters =
-    record {
-      reference = c .reference;
-      rights = c .rights;
-      phase = phase;
-      standings = standings;
-      asking = asking;
-      meters = meters;
-    }
-
--- the same in another phase; with the meter of what a side sends; with a side's own request
+-- the record in another phase; with the meter of what a side sends; with a side's own request
 abbrev pub turnedTo : Call → Phase → Call
 turnedTo c phase = altered c phase (c .standings) (c .asking) (c .meters)
 

@@ -8,5 +8,6 @@ pub mod Credit
 pub mod MoreRights
 pub mod Services
 pub mod Sends
+pub mod Carriers
 pub mod Becomes
 pub mod LentMeter

@@ -8,6 +8,9 @@ use Rattle.flow_meter.specs.declared.Meter.{Meter}
 use Rattle.cause.specs.declared.Cause.{Cause}
 use Rattle.services.specs.declared.Facilities.{Facilities}
 use Rattle.services.specs.declared.Said.{Said}
+use Rattle.services.specs.declared.Standings.{Standings}
+use Rattle.facility_rules.specs.declared.Asking.{Asking}
+use Rattle.phases.specs.declared.Phase.{Phase}
 use Rattle.message_types.specs.declared.Kind.{Kind}
 use Rattle.sent.specs.declared.Level.{Level}
 use Rattle.sent.specs.declared.Sent.{Sent}
@@ -21,14 +24,26 @@ use Rattle.call_promises.specs.Numbers.{Informs, Says, ServesThree, mete
 
 -- what a reply sends to a side
 abbrev pub sentTo : Reply → Side → Sent
-sentTo r Side.Calling = r .calling
-sentTo r Side.Called = r .called
+sentTo r Side.Calling = r .dispatch .calling
+sentTo r Side.Called = r .dispatch .called
 
 -- "11 to 25 change no call, meter or table and send nothing"
 pub record Unmoved (c : Call) (r : Reply) : Type 0 where
   pub call : r .call ≡ c
-  pub calling : r .calling ≡ Sent.Absent
-  pub called : r .called ≡ Sent.Absent
+  pub calling : r .dispatch .calling ≡ Sent.Absent
+  pub called : r .dispatch .called ≡ Sent.Absent
+
+-- the record with other fields; its reference and its rights stay for the whole call
+abbrev pub altered : Call → Phase → Standings → Asking → Meters → Call
+altered c phase standings asking meters =
+    record {
+      reference = c .reference;
+      rights = c .rights;
+      phase = phase;
+      standings = standings;
+      asking = asking;
+      meters = meters;
+    }
 
 -- the record with the mark set of what a side sends, and all else as it was
 abbrev pub setMark : Meter → Meter
@@ -39,15 +54,7 @@ setMarkFrom m Side.Calling = record { calling = setMark (m .calling); called = m
 setMarkFrom m Side.Called = record { calling = m .calling; called = setMark (m .called) }
 
 abbrev pub withMark : Call → Side → Call
-withMark c side =
-    record {
-      reference = c .reference;
-      rights = c .rights;
-      phase = c .phase;
-      standings = c .standings;
-      asking = c .asking;
-      meters = setMarkFrom (c .meters) side;
-    }
+withMark c side = altered c (c .phase) (c .standings) (c .asking) (setMarkFrom (c .meters) side)
 
 abbrev pub nothingSaid : Facilities
 nothingSaid = record { one = Said.Nothing; two = Said.Nothing; three = Said.Nothing }

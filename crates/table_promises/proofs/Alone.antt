@@ -17,7 +17,7 @@ use Rattle.table.specs.declared.verdict.Verdict.{Verdict}
 use Rattle.table.specs.declared.settle.Outcome.{Outcome}
 use Rattle.table.specs.Sought.{liveAs}
 use Rattle.table.specs.Table.{tableSound}
-use Rattle.table.specs.Choice.{meantReferenceOf, opensOf, setupRangedOf, chosenOf}
+use Rattle.table.specs.Choice.{wantedOf, meantReferenceOf, opensOf, setupRangedOf, chosenOf}
 use Rattle.table.specs.Verdict.{verdictNumber}
 use Rattle.table.specs.Settle.{subjectOf, heardOutcomeOf, tableRefusalOf, settledOf}
 use Rattle.table.specs.Step.{outcomeAt, tableAt, stepOutcome, stepTable}
@@ -79,7 +79,7 @@ not-full Answer.Unsound = refl
 
 settled-not-full : (c : Call) (e : Event) (l : List ℕ) → eqb (verdictNumber (settledOf c e l .outcome .verdict)) 21 ≡ false
 unfolding settledOf heardOutcomeOf
-settled-not-full c e l = not-full (stepOf (subjectOf c e) e l .answer)
+settled-not-full c e l = not-full (stepOf (subjectOf c (wantedOf e)) e l .answer)
 
 -- b says of a SETUP whether it met 21, and of another event nothing
 abbrev Flag : Event → Outcome → Bool → Type 0

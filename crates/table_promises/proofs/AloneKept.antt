@@ -10,7 +10,7 @@ use Rattle.event.specs.declared.Event.{Event}
 use Rattle.user_element.specs.Element.{seenOf}
 use Rattle.rights.specs.Rights.{rightsFitOf, referenceFitsOf}
 use Rattle.call.specs.Reply.{barOf, heardOf}
-use Rattle.call.specs.Setup.{filledOf, proceedsOf, setupOf}
+use Rattle.call.specs.Setup.{proceedsOf, setupOf}
 use Rattle.call.specs.Sound.{soundOf, freshCall}
 use Rattle.call.specs.Step.{stepOf}
 use Rattle.table.specs.Choice.{ownOr, isNew, meantReferenceOf, opensOf, setupRangedOf}
@@ -39,7 +39,7 @@ pub record Opens (c : Call) (m : ℕ) (e : Event) (l : List ℕ) : Type 0 where
 
 module _ (c : Call) (m reference : ℕ) (rights : Rights) (q : Requests) (l : List ℕ) where
   filled-reference : proceedsOf reference rights q (seenOf l (rights .limit)) .call .reference ≡ reference
-  unfolding proceedsOf filledOf
+  unfolding proceedsOf
   filled-reference = refl
 
   filled : (d : Call) → (referenceFitsOf reference && rightsFitOf rights) ≡ true → settledOf d (Event.Setup reference rights q) l .call ≡ proceedsOf reference rights q (seenOf l (rights .limit)) .call

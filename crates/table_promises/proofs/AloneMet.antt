@@ -19,7 +19,7 @@ use Rattle.facility_rules.specs.Asking.{nobodyAsks}
 use Rattle.flow_meter.specs.CallMeters.{emptyMeters, refillsOf}
 use Rattle.call.specs.Sound.{freshCall, fieldsFitOf, soundOf, inPhaseOf}
 use Rattle.call.specs.Reply.{barOf, refusedOf, heardOf, replyOf}
-use Rattle.call.specs.Setup.{filledOf, proceedsOf, setupOf}
+use Rattle.call.specs.Setup.{proceedsOf, setupOf}
 use Rattle.call.specs.Answering.{answeredCallOf, goesOnOf, clearsOf, answeredOf, alertingOf}
 use Rattle.call.specs.Information.{metersOf, informationPassageOf, carriedOf, withElementOf, informationOf}
 use Rattle.call.specs.Disconnect.{endsOf, releaseCompleteOf}
@@ -46,7 +46,7 @@ two-places : AllFresh (freshCall ∷ freshCall ∷ [])
 two-places = record { most = omega arith; fresh = fresh-more (freshCall ∷ []) (one-place .fresh) }
 
 pub met : AloneMet
-unfolding emptyOf meterFitsOf passageOf wellFormedOf seenOf goesOutOf rightsFitOf referenceFitsOf remainsOf firstStandingOf standingsOf lacksOf failedOf settlesOf nobodyAsks noRights noServices emptyMeters freshCall fieldsFitOf soundOf inPhaseOf barOf refusedOf heardOf replyOf setupPhaseOf filledOf setupCarriesOf proceedsOf setupOf answeredCallOf goesOnOf clearsOf alertingFatesOf answeredOf alertingOf metersOf informationPassageOf carriedOf withElementOf informationOf endsOf releaseCompleteOf refillsOf runsOf passesTickOf tickOf tableSound chooseOf chosenOf subjectOf recordKeptOf heardOutcomeOf tableRefusalOf settledOf stepOutcome stepTable
+unfolding emptyOf meterFitsOf passageOf wellFormedOf seenOf goesOutOf rightsFitOf referenceFitsOf remainsOf firstStandingOf standingsOf lacksOf failedOf settlesOf nobodyAsks noRights noServices emptyMeters freshCall fieldsFitOf soundOf inPhaseOf barOf refusedOf heardOf replyOf setupPhaseOf setupCarriesOf proceedsOf setupOf answeredCallOf goesOnOf clearsOf alertingFatesOf answeredOf alertingOf metersOf informationPassageOf carriedOf withElementOf informationOf endsOf releaseCompleteOf refillsOf runsOf passesTickOf tickOf tableSound chooseOf chosenOf subjectOf recordKeptOf heardOutcomeOf tableRefusalOf settledOf stepOutcome stepTable
 met = record { one = one-place; two = two-places; events = refl; full = refl; numbers = refl }
 
 pub needed : Needed

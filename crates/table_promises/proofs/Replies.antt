@@ -89,15 +89,14 @@ module _ (t : List Call) (n : ℕ) (e : Event) (l : List ℕ) where
             record {
               number = refl;
               note = refl;
-              calling = refl;
-              called = refl;
-              holds = λ z. getD-set-same t i _ freshCall (chosen-within t n e i (sym k)) ∙ kept-taken (getD t i freshCall) (stepOf (subjectOf (getD t i freshCall) e) e l) z;
+              dispatch = refl;
+              holds = λ z. getD-set-same t i _ freshCall (chosen-within t n e i (sym k)) ∙ kept-taken (getD t i freshCall) (stepOf (subjectOf (getD t i freshCall) (wantedOf e)) e l) z;
             };
       }
 
   silent-at : (v : Verdict) → Silent (outcomeAt t (Choice.Refused v) e l)
   unfolding tableRefusalOf
-  silent-at v = record { note = refl; calling = refl; called = refl }
+  silent-at v = record { note = refl; calling = refl; called = refl; carrier = refl }
 
   replies-at : (k : Choice) → chosenOf t n e ≡ k → Decided t n e k →
       (TableRefuses t n e → Silent (outcomeAt t k e l)) × ((TableRefuses t n e → ⊥) → Own t (tableAt t k e l) n e l (outcomeAt t k e l))

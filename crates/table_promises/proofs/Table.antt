@@ -155,7 +155,7 @@ refusal-keeps a h k = changes-when a ∙ (λ j. ne-eqb (numberOf a) 0 h j || ne-
 
 settled-keeps : (c : Call) (e : Event) (l : List ℕ) → (verdictNumber (settledOf c e l .outcome .verdict) ≡ 0 → ⊥) → (verdictNumber (settledOf c e l .outcome .verdict) ≡ 14 → ⊥) → settledOf c e l .call ≡ c
 unfolding settledOf heardOutcomeOf recordKeptOf
-settled-keeps c e l h k = ap (λ (t : Bool). cond t (stepOf (subjectOf c e) e l .call) c) (refusal-keeps (stepOf (subjectOf c e) e l .answer) h k)
+settled-keeps c e l h k = ap (λ (t : Bool). cond t (stepOf (subjectOf c (wantedOf e)) e l .call) c) (refusal-keeps (stepOf (subjectOf c (wantedOf e)) e l .answer) h k)
 
 refused-at : (t : List Call) (c : Choice) (e : Event) (l : List ℕ) → (verdictNumber (outcomeAt t c e l .verdict) ≡ 0 → ⊥) → (verdictNumber (outcomeAt t c e l .verdict) ≡ 14 → ⊥) → tableAt t c e l ≡ t
 refused-at t (Choice.At i) e l h k = ap (set t i) (settled-keeps (getD t i freshCall) e l h k) ∙ put-back t i

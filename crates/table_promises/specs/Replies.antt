@@ -9,6 +9,7 @@ use Rattle.rights.specs.declared.Rights.{Rights}
 use Rattle.services.specs.declared.Requests.{Requests}
 use Rattle.user_element.specs.Element.{noteNumberOf}
 use Rattle.sent.specs.declared.Sent.{Sent}
+use Rattle.sent.specs.declared.dispatch.Carrier.{Carrier}
 use Rattle.answer.specs.Answer.{numberOf}
 use Rattle.call.specs.declared.Call.{Call}
 use Rattle.event.specs.declared.Event.{Event}
@@ -39,19 +40,19 @@ pub data TableRefuses (t : List Call) (n : ℕ) : Event → Type 0 where
 -- "11 to 25 .. send nothing", and "Every other refusal has note 0."
 pub record Silent (o : Outcome) : Type 0 where
   pub note : noteNumberOf (o .note) ≡ 0
-  pub calling : o .calling ≡ Sent.Absent
-  pub called : o .called ≡ Sent.Absent
+  pub calling : o .dispatch .calling ≡ Sent.Absent
+  pub called : o .dispatch .called ≡ Sent.Absent
+  pub carrier : o .dispatch .carrier ≡ Carrier.Nobody
 
 -- "SETUP fills the whole record, used for one call": it starts from a fresh one, whatever the place held.
 abbrev pub stepsFrom : Call → Event → Call
 stepsFrom c e = cond (opensOf e) freshCall c
 
--- the number, note and messages of the reply r, and where the number is 0 its record at the place
+-- the number and note of the reply r, what it sends, and where the number is 0 its record at the place
 pub record Gives (s : List Call) (place : ℕ) (o : Outcome) (r : Reply) : Type 0 where
   pub number : verdictNumber (o .verdict) ≡ numberOf (r .answer)
   pub note : o .note ≡ r .note
-  pub calling : o .calling ≡ r .calling
-  pub called : o .called ≡ r .called
+  pub dispatch : o .dispatch ≡ r .dispatch
   pub holds : numberOf (r .answer) ≡ 0 → getD s place freshCall ≡ r .call
 
 -- the reply of the call at the place that the event names: the lowest free one for SETUP, for others that of the live
@@ -61,8 +62,8 @@ pub record Own (t s : List Call) (n : ℕ) (e : Event) (element : List ℕ) (o :
   pub named : Names t n place e
   pub reply : Gives s place o (stepOf (stepsFrom (getD t place freshCall) e) e element)
 
--- REPLIES. Where the table itself refuses, nothing is sent and the note is 0. Otherwise number, note and messages are
--- those of the call's own reply, and where it is taken the place holds the record of that reply.
+-- REPLIES. Where the table itself refuses, nothing is sent and the note is 0. Otherwise number, note and what is sent
+-- are those of the call's own reply, and where it is taken the place holds the record of that reply.
 abbrev pub Replies : Type 0
 Replies =
     (t : List Call) (n : ℕ) (e : Event) (element : List ℕ) →

@@ -14,7 +14,7 @@ use Rattle.sent.specs.Message.{silence, sayingOf, bareOf, congestionOf, informs
 use Rattle.flow_meter.specs.CallMeters.{emptyMeters, grantsOf, refillsOf, readyOf, tickedMetersOf}
 use Rattle.call.specs.Sound.{freshCall, fieldsFitOf, soundOf, inPhaseOf}
 use Rattle.call.specs.Reply.{barOf, refusedOf, heardOf, replyOf}
-use Rattle.call.specs.Setup.{filledOf, proceedsOf, setupOf}
+use Rattle.call.specs.Setup.{proceedsOf, setupOf}
 use Rattle.call.specs.Answering.{answeredCallOf, goesOnOf, clearsOf, answeredOf, alertingOf, connectOf}
 use Rattle.call.specs.Information.{metersOf, informationPassageOf, carriedOf, withElementOf, informationOf}
 use Rattle.clearing_rules.specs.Closing.{silentAnswers, closingFacilitiesOf}
@@ -38,5 +38,5 @@ use Rattle.writer.specs.Writing.{frontOctets, messageOctets}
 use Rattle.wire_promises.specs.Samples.{Samples}
 
 pub samples : Samples
-unfolding emptyOf meterFitsOf grantedOf countedOf paidOf markedOf underThreeOf passageOf wellFormedOf seenOf goesOutOf rightsFitOf referenceFitsOf remainsOf firstStandingOf standingsOf lacksOf passedRequestsOf networkRefusalsOf failedOf settlesOf tellsOf declinesOf silence nobodyAsks sayingOf bareOf congestionOf informsOf onlyIfOf noRights noServices emptyMeters freshCall fieldsFitOf soundOf inPhaseOf barOf refusedOf heardOf replyOf setupPhaseOf filledOf toCallerOf toCalledOf setupCarriesOf proceedsOf setupOf grantsOf answeredCallOf goesOnOf clearsOf alertingFatesOf connectFatesOf answeredOf alertingOf connectOf metersOf informationPassageOf carriedOf withElementOf informationOf refilledOf tickedOf toRequestOf toAnswerOf silentAnswers closingFacilitiesOf closedCallOf passedOnOf disconnectOf facilityVerdictOf facilityCallOf aboutThreeOf passesFacilityOf facilityOf tickedMetersOf refillsOf readyOf runsOf passesTickOf tickOf notAnEventOf causeOf size stand spells filled serviceOf wishOf refusalOf readAs invokeOf resultOf errorOf componentOf placed wroteOf leftOf then elements counted kindOf singleOf firstSingle firstCause firstPlace components readingOf takenFrom headedOf readOf userUserOf frontOctets messageOctets elementFitsOf messageFits
+unfolding emptyOf meterFitsOf grantedOf countedOf paidOf markedOf underThreeOf passageOf wellFormedOf seenOf goesOutOf rightsFitOf referenceFitsOf remainsOf firstStandingOf standingsOf lacksOf passedRequestsOf networkRefusalsOf failedOf settlesOf tellsOf declinesOf silence nobodyAsks sayingOf bareOf congestionOf informsOf onlyIfOf noRights noServices emptyMeters freshCall fieldsFitOf soundOf inPhaseOf barOf refusedOf heardOf replyOf setupPhaseOf toCallerOf toCalledOf setupCarriesOf proceedsOf setupOf grantsOf answeredCallOf goesOnOf clearsOf alertingFatesOf connectFatesOf answeredOf alertingOf connectOf metersOf informationPassageOf carriedOf withElementOf informationOf refilledOf tickedOf toRequestOf toAnswerOf silentAnswers closingFacilitiesOf closedCallOf passedOnOf disconnectOf facilityVerdictOf facilityCallOf aboutThreeOf passesFacilityOf facilityOf tickedMetersOf refillsOf readyOf runsOf passesTickOf tickOf notAnEventOf causeOf size stand spells filled serviceOf wishOf refusalOf readAs invokeOf resultOf errorOf componentOf placed wroteOf leftOf then elements counted kindOf singleOf firstSingle firstCause firstPlace components readingOf takenFrom headedOf readOf userUserOf frontOctets messageOctets elementFitsOf messageFits
 samples = (refl, refl, (refl, refl, (refl, refl, (refl, refl, (refl, refl, (refl, refl, (refl, refl, tt)))))))

@@ -33,6 +33,7 @@ use Rattle.message_types.specs.declared.Kind.{Kind}
 use Rattle.sent.specs.declared.Level.{Level}
 use Rattle.sent.specs.declared.Message.{Message}
 use Rattle.sent.specs.declared.Sent.{Sent}
+use Rattle.sent.specs.declared.dispatch.Carrier.{Carrier}
 use Rattle.phases.specs.declared.Phase.{Phase}
 use Rattle.sent.specs.declared.side.Side.{Side}
 use Rattle.call.specs.declared.Call.{Call}
@@ -116,8 +117,8 @@ Sends limit Sent.Absent = Unit {0}
 Sends limit (Sent.Present m) = Fits limit m
 
 record Speaks (limit : ℕ) (r : Reply) : Type 0 where
-  calling : Sends limit (r .calling)
-  called : Sends limit (r .called)
+  calling : Sends limit (r .dispatch .calling)
+  called : Sends limit (r .dispatch .called)
 
 refused-speaks : (limit : ℕ) (c : Call) (x : Answer) (note : Note) → Speaks limit (refusedOf c x note)
 unfolding refusedOf
@@ -150,10 +151,10 @@ module _ (limit : ℕ) (most : limit ≤ 131) where
   unfolding congestionOf
   congestion-sends level s k = record { most = most; single = s; more = k; cause = omega arith }
 
-  side-speaks : (side : Side) (d : Call) (a : Answer) (note : Note) (back on : Sent) → Sends limit back → Sends limit on → Speaks limit (replyOf side d a note back on)
+  side-speaks : (side : Side) (d : Call) (a : Answer) (note : Note) (back on : Sent) (x : Carrier) → Sends limit back → Sends limit on → Speaks limit (replyOf side d a note back on x)
   unfolding replyOf
-  side-speaks Side.Calling d a note back on p w = record { calling = p; called = w }
-  side-speaks Side.Called d a note back on p w = record { calling = w; called = p }
+  side-speaks Side.Calling d a note back on x p w = record { calling = p; called = w }
+  side-speaks Side.Called d a note back on x p w = record { calling = w; called = p }
 
   setup-speaks : (reference : ℕ) (rights : Rights) (q : Requests) (seen : Seen) → Speaks limit (proceedsOf reference rights q seen)
   unfolding proceedsOf toCallerOf toCalledOf
@@ -177,7 +178,7 @@ module _ (limit : ℕ) (most : limit ≤ 131) where
   carried-speaks : (c : Call) (side : Side) (more : Bool) (p : Passage) → Speaks limit (carriedOf c side more p)
   unfolding carriedOf
   carried-speaks c side more p =
-      side-speaks side _ _ _ _ _ (only-sends (marksOf p) _ (congestion-sends Level.NotReady (inr refl) refl))
+      side-speaks side _ _ _ _ _ _ (only-sends (marksOf p) _ (congestion-sends Level.NotReady (inr refl) refl))
       (only-sends (passesOf p) _ (informs-sends more))
 
   element-speaks : (c : Call) (side : Side) (more : Bool) (seen : Seen) → Speaks limit (withElementOf c seen (carriedOf c side more (informationPassageOf c side)))
@@ -211,14 +212,14 @@ speaks c (Event.Information side more) l =
 speaks c (Event.Facility side what) l =
     live-speaks c _ _ _ (heard c _ _ _) (λ h. inl (inr (inr (active (c .phase) .so h))))
     (λ k _.
-    side-speaks _ k side _ _ _ _ _ (only-sends _ k _ _ (saying-sends _ k _ _ _ _ refl tt))
+    side-speaks _ k side _ _ _ _ _ _ (only-sends _ k _ _ (saying-sends _ k _ _ _ _ refl tt))
     (only-sends _ k _ _ (saying-sends _ k _ _ _ _ refl tt)))
 speaks c (Event.Disconnect side cause answers) l =
     live-speaks c _ _ _ (heard c _ _ _) (λ h. inl (up (c .phase) .so h))
-    (λ k g. side-speaks _ k side _ _ _ _ _ tt (saying-sends _ k _ _ _ _ refl (le cause 127 .so g)))
+    (λ k g. side-speaks _ k side _ _ _ _ _ _ tt (saying-sends _ k _ _ _ _ refl (le cause 127 .so g)))
 speaks c (Event.ReleaseComplete side) l =
     live-speaks c _ _ _ (heard c _ _ _) (λ h. live (c .phase) .so h)
-    (λ k _. side-speaks _ k side _ _ _ _ _ tt (saying-sends _ k _ _ _ _ refl tt))
+    (λ k _. side-speaks _ k side _ _ _ _ _ _ tt (saying-sends _ k _ _ _ _ refl tt))
 speaks c Event.Tick l = live-speaks c _ _ _ (heard c _ _ _) (λ h. live (c .phase) .so h) (λ k _. tick-speaks _ k c)
 speaks c Event.CallProceeding l = refused-speaks _ c _ _
 speaks c Event.CongestionControl l = refused-speaks _ c _ _
