@@ -7,31 +7,7 @@ use denote.Enum.Declared.{tagOf}
 use types.Run.{OneOf, miss}
 use Rattle.event.specs.declared.Event.{Event}
 use Rattle.event.proofs.Event.{the-type}
-use Rattle.recorder.specs.Writing.{fieldedOf, eventFitsOf}
-
-pub with-field : (e : Event) → OneOf (0 ∷ 1 ∷ 2 ∷ 3 ∷ 5 ∷ []) (tagOf the-type e) → true ≡ fieldedOf e
-with-field (Event.Setup n rights q) h = refl
-with-field (Event.Alerting a) h = refl
-with-field (Event.Connect a) h = refl
-with-field (Event.Information side more) h = refl
-with-field (Event.Facility side what) h = absurd (miss (0 ∷ 1 ∷ 2 ∷ 3 ∷ 5 ∷ []) 4 tt h)
-with-field (Event.Disconnect side cause a) h = refl
-with-field (Event.ReleaseComplete side) h = absurd (miss (0 ∷ 1 ∷ 2 ∷ 3 ∷ 5 ∷ []) 6 tt h)
-with-field Event.Tick h = absurd (miss (0 ∷ 1 ∷ 2 ∷ 3 ∷ 5 ∷ []) 7 tt h)
-with-field Event.CallProceeding h = absurd (miss (0 ∷ 1 ∷ 2 ∷ 3 ∷ 5 ∷ []) 8 tt h)
-with-field Event.CongestionControl h = absurd (miss (0 ∷ 1 ∷ 2 ∷ 3 ∷ 5 ∷ []) 9 tt h)
-
-pub without-field : (e : Event) → OneOf (4 ∷ 6 ∷ 7 ∷ 8 ∷ 9 ∷ []) (tagOf the-type e) → false ≡ fieldedOf e
-without-field (Event.Setup n rights q) h = absurd (miss (4 ∷ 6 ∷ 7 ∷ 8 ∷ 9 ∷ []) 0 tt h)
-without-field (Event.Alerting a) h = absurd (miss (4 ∷ 6 ∷ 7 ∷ 8 ∷ 9 ∷ []) 1 tt h)
-without-field (Event.Connect a) h = absurd (miss (4 ∷ 6 ∷ 7 ∷ 8 ∷ 9 ∷ []) 2 tt h)
-without-field (Event.Information side more) h = absurd (miss (4 ∷ 6 ∷ 7 ∷ 8 ∷ 9 ∷ []) 3 tt h)
-without-field (Event.Facility side what) h = refl
-without-field (Event.Disconnect side cause a) h = absurd (miss (4 ∷ 6 ∷ 7 ∷ 8 ∷ 9 ∷ []) 5 tt h)
-without-field (Event.ReleaseComplete side) h = refl
-without-field Event.Tick h = refl
-without-field Event.CallProceeding h = refl
-without-field Event.CongestionControl h = refl
+use Rattle.recorder.specs.Writing.{eventFitsOf}
 
 pub always : (r : ℕ) (e : Event) → OneOf (1 ∷ 2 ∷ 4 ∷ 6 ∷ 7 ∷ []) (tagOf the-type e) → true ≡ eventFitsOf r e
 always r (Event.Setup n rights q) h = absurd (miss (1 ∷ 2 ∷ 4 ∷ 6 ∷ 7 ∷ []) 0 tt h)

@@ -14,7 +14,7 @@ use Rattle.memory.specs.declared.Wrote.{Wrote}
 use Rattle.memory.specs.Room.{placed, Written}
 use Rattle.memory.specs.Putting.{endOf, Put}
 use Rattle.memory.proofs.Pieces.{settles, put-length}
-use Rattle.recorder.specs.Writing.{fieldOctets, headOctets, fieldedOf, tailOctets, Holds, recordOctets}
+use Rattle.recorder.specs.Writing.{fieldOctets, kindFor, headOctets, fieldedOf, tailOctets, Holds, recordOctets}
 
 dropped : (k n : ℕ) → drop k (replicate {A = ℕ} n 0) ≡ replicate {A = ℕ} (n - k) 0
 dropped zero n = rw (sub-zero n) refl
@@ -51,8 +51,8 @@ cut : (has : Bool) (n : ℕ) (t h u : List ℕ) → length h ≡ n → take (n +
 cut true n t h u e q = q
 cut false n t h u e q = sym (take-take n (n + 132) t (omega arith)) ∙ rw q (take-at h (fieldOctets u) n e) ∙ sym (append-nil h)
 
-pub the-record : (r : ℕ) (e : Event) (u t : List ℕ) (h : Head) {has : Bool} {n : ℕ} → Holds h (headOctets r e) → take (h .size + 132) t ≡ take (h .size) (h .octets) ++ fieldOctets u → has ≡ fieldedOf e → n ≡ cond has (h .size + 132) (h .size) → take (n - 0) (drop 0 t) ≡ recordOctets r e u
+pub the-record : (r : ℕ) (e : Event) (u t : List ℕ) (h : Head) {has : Bool} {n : ℕ} → Holds h (headOctets (kindFor e) r e) → take (h .size + 132) t ≡ take (h .size) (h .octets) ++ fieldOctets u → has ≡ fieldedOf e → n ≡ cond has (h .size + 132) (h .size) → take (n - 0) (drop 0 t) ≡ recordOctets r e u
 unfolding recordOctets
 the-record r e u t h {has} {n} g q f s =
-    let p : take (h .size + 132) t ≡ headOctets r e ++ fieldOctets u = rw (g .octets) at q in
-    rw (sub-zero n, s, f) (cut (fieldedOf e) (h .size) t (headOctets r e) u (sym (g .size)) p)
+    let p : take (h .size + 132) t ≡ headOctets (kindFor e) r e ++ fieldOctets u = rw (g .octets) at q in
+    rw (sub-zero n, s, f) (cut (fieldedOf e) (h .size) t (headOctets (kindFor e) r e) u (sym (g .size)) p)

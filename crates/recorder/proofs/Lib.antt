@@ -1,3 +1,4 @@
 pub mod Groups
+pub mod Heads
 pub mod Joining
 pub mod Sizing

@@ -9,13 +9,13 @@ use lib.ListN.{length, length-append, length-replicate}
 use Rattle.event.specs.declared.Event.{Event}
 use Rattle.logic.proofs.Tests.{both}
 use Rattle.user_element.proofs.writable.Whole.{element-small}
-use Rattle.recorder.specs.Writing.{fieldOctets, headOctets, fieldedOf, eventFitsOf, tailFitsOf, recordFitsOf}
+use Rattle.recorder.specs.Writing.{fieldOctets, kindFor, headOctets, fieldedOf, eventFitsOf, tailFitsOf, recordFitsOf}
 
 pub field-is : (u : List ℕ) → length u ≤ 131 → length (fieldOctets u) ≡ 132
 unfolding fieldOctets
 field-is u h = simp (length-append, length-replicate) (omega arith)
 
-pub head-small : (r : ℕ) (e : Event) → length (headOctets r e) ≤ 12
+pub head-small : (r : ℕ) (e : Event) → length (headOctets (kindFor e) r e) ≤ 12
 head-small r (Event.Setup n rights q) = omega arith
 head-small r (Event.Alerting a) = omega arith
 head-small r (Event.Connect a) = omega arith

@@ -1,17 +1,21 @@
 -- A record written: the inverse of reading one.
-use Prim.Native.Nat.{ℕ, _-_, _/_, _%_}
+use Prim.Native.Nat.{ℕ, _+_, _-_, _/_, _%_}
 use mathlib.Core.List.{List, [], _∷_, _++_}
 use mathlib.Core.Path.{_≡_}
-use mathlib.Core.Bool.{Bool, true, false, not, _&&_}
-use lib.ListN.{length, take, replicate}
+use mathlib.Core.Bool.{Bool, true, false, cond, not, _&&_}
+use lib.ListN.{length, take, set, replicate}
 use lib.Dec.{ltb, eqb}
 use Rattle.user_element.specs.Writable.{elementFitsOf}
 use Rattle.event.specs.declared.Event.{Event}
 use Rattle.facility_rules.specs.declared.What.{What}
+use Rattle.rights.specs.declared.Rights.{Rights}
 use Rattle.sent.specs.declared.side.Side.{Side}
-use Rattle.services.specs.declared.Answers.{Answers}
 use Rattle.services.specs.declared.Given.{Given}
 use Rattle.services.specs.declared.Request.{Request}
+use Rattle.trace.specs.declared.kind.RecordKind.{RecordKind}
+use Rattle.trace.specs.declared.kind.NamedKind.{NamedKind}
+use Rattle.trace.specs.declared.kind.Layout.{Layout}
+use Rattle.trace.specs.Kind.{layoutOf}
 use Rattle.recorder.specs.declared.Head.{Head}
 
 abbrev pub flagOctet : Bool → ℕ
@@ -42,53 +46,76 @@ whatOctet What.Required = 3
 unfoldable pub fieldOctets : List ℕ → List ℕ
 fieldOctets u = length u ∷ (u ++ replicate (131 - length u) 0)
 
--- a record's kind, its reference, and a side, or three answers
-abbrev pub sidedOctets : ℕ → ℕ → Side → List ℕ
-sidedOctets k r s = k ∷ r / 256 ∷ r % 256 ∷ sideOctet s ∷ []
+-- the kind of record that an event is written as; two messages are no events
+abbrev pub kindFor : Event → NamedKind
+kindFor (Event.Setup n rights q) = NamedKind.Known RecordKind.Setup
+kindFor (Event.Alerting a) = NamedKind.Known RecordKind.Alerting
+kindFor (Event.Connect a) = NamedKind.Known RecordKind.Connect
+kindFor (Event.Information side more) = NamedKind.Known RecordKind.Information
+kindFor (Event.Facility side what) = NamedKind.Known RecordKind.Facility
+kindFor (Event.Disconnect side cause a) = NamedKind.Known RecordKind.Disconnect
+kindFor (Event.ReleaseComplete side) = NamedKind.Known RecordKind.ReleaseComplete
+kindFor Event.Tick = NamedKind.Known RecordKind.Tick
+kindFor Event.CallProceeding = NamedKind.Unknown
+kindFor Event.CongestionControl = NamedKind.Unknown
 
-abbrev pub answersOctets : ℕ → ℕ → Answers → List ℕ
-answersOctets k r a = k ∷ r / 256 ∷ r % 256 ∷ givenOctet (a .one) ∷ givenOctet (a .two) ∷ givenOctet (a .three) ∷ []
+-- three octets put into a record from a place on
+abbrev pub threeIn : ℕ → ℕ → ℕ → ℕ → List ℕ → List ℕ
+threeIn p a b c o = set (set (set o p a) (p + 1) b) (p + 2) c
 
--- the octet of kind, the reference, and what comes before the element field
-abbrev pub headOctets : ℕ → Event → List ℕ
-headOctets r (Event.Setup n rights q) =
-    1 ∷ r / 256 ∷ r % 256 ∷ rights .services ∷ flagOctet (rights .late) ∷ flagOctet (rights .leave) ∷ rights .limit
-    ∷ rights .burst % 256 ∷ rights .refill % 256 ∷ requestOctet (q .one) ∷ requestOctet (q .two) ∷ requestOctet (q .three) ∷ []
-headOctets r (Event.Alerting a) = answersOctets 2 r a
-headOctets r (Event.Connect a) = answersOctets 3 r a
-headOctets r (Event.Information side more) = sidedOctets 4 r side
-headOctets r (Event.Facility side what) = sidedOctets 5 r side ++ (whatOctet what ∷ [])
-headOctets r (Event.Disconnect side cause a) =
-    6 ∷ r / 256 ∷ r % 256 ∷ sideOctet side ∷ cause ∷ givenOctet (a .one) ∷ givenOctet (a .two) ∷ givenOctet (a .three) ∷ []
-headOctets r (Event.ReleaseComplete side) = sidedOctets 7 r side
-headOctets r Event.Tick = 8 ∷ r / 256 ∷ r % 256 ∷ []
-headOctets r Event.CallProceeding = []
-headOctets r Event.CongestionControl = []
+-- "services, late, leave, limit, X, Y"
+abbrev pub rightsIn : ℕ → Rights → List ℕ → List ℕ
+rightsIn p r o =
+    set
+    (set (set (threeIn p (r .services) (flagOctet (r .late)) (flagOctet (r .leave)) o) (p + 3) (r .limit)) (p + 4) (r .burst % 256))
+    (p + 5) (r .refill % 256)
+
+-- the fields of an event, each put into a record at its place
+abbrev pub fieldsIn : Event → Layout → List ℕ → List ℕ
+fieldsIn (Event.Setup n rights q) l o =
+    threeIn (l .requests) (requestOctet (q .one)) (requestOctet (q .two)) (requestOctet (q .three)) (rightsIn (l .rights) rights o)
+fieldsIn (Event.Alerting a) l o = threeIn (l .answers) (givenOctet (a .one)) (givenOctet (a .two)) (givenOctet (a .three)) o
+fieldsIn (Event.Connect a) l o = threeIn (l .answers) (givenOctet (a .one)) (givenOctet (a .two)) (givenOctet (a .three)) o
+fieldsIn (Event.Information side more) l o = set o (l .side) (sideOctet side)
+fieldsIn (Event.Facility side what) l o = set (set o (l .side) (sideOctet side)) (l .what) (whatOctet what)
+fieldsIn (Event.Disconnect side cause a) l o =
+    threeIn (l .answers) (givenOctet (a .one)) (givenOctet (a .two)) (givenOctet (a .three)) (set (set o (l .side) (sideOctet side)) (l .cause) cause)
+fieldsIn (Event.ReleaseComplete side) l o = set o (l .side) (sideOctet side)
+fieldsIn Event.Tick l o = o
+fieldsIn Event.CallProceeding l o = o
+fieldsIn Event.CongestionControl l o = o
+
+-- where the element field begins, or the record ends that has none
+abbrev pub headOf : Layout → ℕ
+headOf l = cond (eqb (l .element) 0) (l .size) (l .element)
+
+-- the octet of kind, the reference, and zeros up to there, with the fields at their places
+abbrev pub headAs : RecordKind → ℕ → Event → List ℕ
+headAs k r e = fieldsIn e (layoutOf k) (layoutOf k .octet ∷ r / 256 ∷ r % 256 ∷ replicate (headOf (layoutOf k) - 3) 0)
+
+abbrev pub headOctets : NamedKind → ℕ → Event → List ℕ
+headOctets NamedKind.Unknown r e = []
+headOctets (NamedKind.Known k) r e = headAs k r e
 
 -- a head whose first octets, so many as it says, are these
 pub record Holds (h : Head) (o : List ℕ) : Type 0 where
   pub size : h .size ≡ length o
   pub octets : take (h .size) (h .octets) ≡ o
 
--- whether a record of the event has an element field
+-- whether a record of the kind has an element field
+abbrev pub hasElement : NamedKind → Bool
+hasElement NamedKind.Unknown = false
+hasElement (NamedKind.Known k) = not (eqb (layoutOf k .element) 0)
+
 abbrev pub fieldedOf : Event → Bool
-fieldedOf (Event.Setup n rights q) = true
-fieldedOf (Event.Alerting a) = true
-fieldedOf (Event.Connect a) = true
-fieldedOf (Event.Information side more) = true
-fieldedOf (Event.Facility side what) = false
-fieldedOf (Event.Disconnect side cause a) = true
-fieldedOf (Event.ReleaseComplete side) = false
-fieldedOf Event.Tick = false
-fieldedOf Event.CallProceeding = false
-fieldedOf Event.CongestionControl = false
+fieldedOf e = hasElement (kindFor e)
 
 abbrev pub tailOctets : Bool → List ℕ → List ℕ
 tailOctets true u = fieldOctets u
 tailOctets false u = []
 
 unfoldable pub recordOctets : ℕ → Event → List ℕ → List ℕ
-recordOctets r e u = headOctets r e ++ tailOctets (fieldedOf e) u
+recordOctets r e u = headOctets (kindFor e) r e ++ tailOctets (fieldedOf e) u
 
 -- what a trace can hold of an event: X and Y in one octet, one reference, no More data, a cause up to 127, and none of
 -- the two messages that are no events

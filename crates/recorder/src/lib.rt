@@ -1,12 +1,11 @@
 // A record of a trace, written into a buffer that the caller lends, or why it is not; numbers 6 and 7.
 ghost use mathlib.Core.Path.{_≡_};
 ghost use mathlib.Core.Bool.{cond};
-ghost use mathlib.Core.List.{[], _++_};
+ghost use mathlib.Core.List.{[], _∷_, _++_};
 ghost use Prim.Native.Nat.{_≤_, _+_, _/_, _%_};
-ghost use lib.ListN.{length, take};
-ghost use Rattle.event.specs.declared.Event.{Event};
+ghost use lib.ListN.{length, take, set, replicate};
 ghost use Rattle.memory.specs.Room.{Written};
-ghost use Rattle.recorder.specs.Writing.{flagOctet, sideOctet, requestOctet, givenOctet, whatOctet, fieldOctets, headOctets, Holds, sidedOctets, answersOctets, fieldedOf, recordOctets, eventFitsOf, recordFitsOf};
+ghost use Rattle.recorder.specs.Writing.{flagOctet, sideOctet, requestOctet, givenOctet, whatOctet, fieldOctets, kindFor, threeIn, rightsIn, fieldsIn, headOf, headAs, headOctets, Holds, fieldedOf, recordOctets, eventFitsOf, recordFitsOf};
 use event::Event;
 use facility_rules::What;
 use memory::Bar;
@@ -18,6 +17,10 @@ use services::Answers;
 use services::Given;
 use services::Request;
 use services::Requests;
+use trace::kind::Layout;
+use trace::kind::NamedKind;
+use trace::kind::RecordKind;
+use trace::kind::layout_of;
 use user_element::writable::element_fits;
 
 // What comes before the element field of a record: its first octets, so many as `size` says.
@@ -84,28 +87,41 @@ fn low(x: u16) -> u8
     (x % 256) as u8
 }
 
-fn fielded(e: Event) -> bool
-    ensures { λ t. ⌜ t ≡ fieldedOf e ⌝ }
+// The kind of record that an event is written as.
+fn kind_for(e: Event) -> NamedKind
+    ensures { λ k. ⌜ k ≡ kindFor e ⌝ }
 {
     match e {
         Event::Setup {
             reference: _,
             rights: _,
             requests: _,
-        }
-        | Event::Alerting { answers: _ }
-        | Event::Connect { answers: _ }
-        | Event::Information { side: _, more: _ }
-        | Event::Disconnect {
+        } => NamedKind::Known(RecordKind::Setup),
+        Event::Alerting { answers: _ } => NamedKind::Known(RecordKind::Alerting),
+        Event::Connect { answers: _ } => NamedKind::Known(RecordKind::Connect),
+        Event::Information { side: _, more: _ } => NamedKind::Known(RecordKind::Information),
+        Event::Facility { side: _, what: _ } => NamedKind::Known(RecordKind::Facility),
+        Event::Disconnect {
             side: _,
             cause: _,
             answers: _,
-        } => true,
-        Event::Facility { side: _, what: _ }
-        | Event::ReleaseComplete { side: _ }
-        | Event::Tick
-        | Event::CallProceeding
-        | Event::CongestionControl => false,
+        } => NamedKind::Known(RecordKind::Disconnect),
+        Event::ReleaseComplete { side: _ } => NamedKind::Known(RecordKind::ReleaseComplete),
+        Event::Tick => NamedKind::Known(RecordKind::Tick),
+        Event::CallProceeding => NamedKind::Unknown,
+        Event::CongestionControl => NamedKind::Unknown,
+    }
+}
+
+fn fielded(e: Event) -> bool
+    ensures { λ t. ⌜ t ≡ fieldedOf e ⌝ }
+{
+    match kind_for(e) {
+        NamedKind::Unknown => false,
+        NamedKind::Known(k) => {
+            let l = layout_of(k);
+            l.element != 0
+        }
     }
 }
 
@@ -144,107 +160,123 @@ pub fn record_fits(r: u16, e: Event, u: &[u8]) -> bool
     }
 }
 
-fn setup_head(r: u16, rights: Rights, q: Requests) -> Head
-    ensures { λ h. ⌜ Holds h (headOctets r (Event.Setup r rights q)) ⌝ }
+// An octet put into a head, so many after a place.
+fn put(o: [u8; 12], p: usize, i: usize, x: u8) -> [u8; 12]
+    ensures { λ h. ⌜ h ≡ set o (p + i) x ⌝ }
+{
+    if p >= 12 {
+        return o;
+    }
+    if i >= 12 - p {
+        return o;
+    }
+    let mut h = o;
+    h[p + i] = x;
+    h
+}
+
+fn put_three(o: [u8; 12], p: usize, a: u8, b: u8, c: u8) -> [u8; 12]
+    ensures { λ h. ⌜ h ≡ threeIn p a b c o ⌝ }
+{
+    let one = put(o, p, 0, a);
+    let two = put(one, p, 1, b);
+    put(two, p, 2, c)
+}
+
+fn put_rights(o: [u8; 12], p: usize, r: Rights) -> [u8; 12]
+    ensures { λ h. ⌜ h ≡ rightsIn p r o ⌝ }
+{
+    let services = put(o, p, 0, r.services);
+    let late = put(services, p, 1, flag_octet(r.late));
+    let leave = put(late, p, 2, flag_octet(r.leave));
+    let limit = put(leave, p, 3, r.limit);
+    let burst = put(limit, p, 4, low(r.burst));
+    put(burst, p, 5, low(r.refill))
+}
+
+fn put_requests(o: [u8; 12], p: usize, q: Requests) -> [u8; 12]
+    ensures { λ h. ⌜ h ≡ threeIn p (requestOctet (q .one)) (requestOctet (q .two)) (requestOctet (q .three)) o ⌝ }
 {
     let one = q.one;
     let two = q.two;
     let three = q.three;
-    let octets = [
-        1,
-        high(r),
-        low(r),
-        rights.services,
-        flag_octet(rights.late),
-        flag_octet(rights.leave),
-        rights.limit,
-        low(rights.burst),
-        low(rights.refill),
+    put_three(
+        o,
+        p,
         request_octet(one),
         request_octet(two),
         request_octet(three),
-    ];
-    Head { octets, size: 12 }
+    )
 }
 
-fn answers_head(kind: u8, r: u16, a: Answers) -> Head
-    ensures { λ h. ⌜ Holds h (answersOctets kind r a) ⌝ }
+fn put_answers(o: [u8; 12], p: usize, a: Answers) -> [u8; 12]
+    ensures { λ h. ⌜ h ≡ threeIn p (givenOctet (a .one)) (givenOctet (a .two)) (givenOctet (a .three)) o ⌝ }
 {
     let one = a.one;
     let two = a.two;
     let three = a.three;
-    let octets = [
-        kind,
-        high(r),
-        low(r),
-        given_octet(one),
-        given_octet(two),
-        given_octet(three),
-        0,
-        0,
-        0,
-        0,
-        0,
-        0,
-    ];
-    Head { octets, size: 6 }
+    put_three(o, p, given_octet(one), given_octet(two), given_octet(three))
 }
 
-fn sided_head(kind: u8, r: u16, s: Side) -> Head
-    ensures { λ h. ⌜ Holds h (sidedOctets kind r s) ⌝ }
+// The fields of an event, each at its place.
+fn fields_in(e: Event, l: Layout, o: [u8; 12]) -> [u8; 12]
+    ensures { λ h. ⌜ h ≡ fieldsIn e l o ⌝ }
 {
-    let octets = [kind, high(r), low(r), side_octet(s), 0, 0, 0, 0, 0, 0, 0, 0];
-    Head { octets, size: 4 }
+    match e {
+        Event::Setup {
+            reference: _,
+            rights,
+            requests,
+        } => put_requests(put_rights(o, l.rights, rights), l.requests, requests),
+        Event::Alerting { answers } => put_answers(o, l.answers, answers),
+        Event::Connect { answers } => put_answers(o, l.answers, answers),
+        Event::Information { side, more: _ } => put(o, l.side, 0, side_octet(side)),
+        Event::Facility { side, what } => {
+            put(
+                put(o, l.side, 0, side_octet(side)),
+                l.what,
+                0,
+                what_octet(what),
+            )
+        }
+        Event::Disconnect {
+            side,
+            cause,
+            answers,
+        } => {
+            let sided = put(o, l.side, 0, side_octet(side));
+            put_answers(put(sided, l.cause, 0, cause), l.answers, answers)
+        }
+        Event::ReleaseComplete { side } => put(o, l.side, 0, side_octet(side)),
+        Event::Tick => o,
+        Event::CallProceeding => o,
+        Event::CongestionControl => o,
+    }
 }
 
-fn facility_head(r: u16, s: Side, w: What) -> Head
-    ensures { λ h. ⌜ Holds h (headOctets r (Event.Facility s w)) ⌝ }
+// The octet of kind and the reference, and zeros.
+fn begun(octet: u8, r: u16) -> [u8; 12]
+    ensures { λ h. ⌜ h ≡ octet ∷ r / 256 ∷ r % 256 ∷ replicate 9 0 ⌝ }
 {
-    let octets = [
-        5,
-        high(r),
-        low(r),
-        side_octet(s),
-        what_octet(w),
-        0,
-        0,
-        0,
-        0,
-        0,
-        0,
-        0,
-    ];
-    Head { octets, size: 5 }
+    [octet, high(r), low(r), 0, 0, 0, 0, 0, 0, 0, 0, 0]
 }
 
-fn disconnect_head(r: u16, s: Side, cause: u8, a: Answers) -> Head
-    ensures { λ h. ⌜ Holds h (headOctets r (Event.Disconnect s cause a)) ⌝ }
+// Where the element field begins, or the record ends that has none.
+fn head_size(l: Layout) -> usize
+    ensures { λ n. ⌜ n ≡ headOf l ⌝ }
 {
-    let one = a.one;
-    let two = a.two;
-    let three = a.three;
-    let octets = [
-        6,
-        high(r),
-        low(r),
-        side_octet(s),
-        cause,
-        given_octet(one),
-        given_octet(two),
-        given_octet(three),
-        0,
-        0,
-        0,
-        0,
-    ];
-    Head { octets, size: 8 }
+    if l.element == 0 { l.size } else { l.element }
 }
 
-fn tick_head(r: u16) -> Head
-    ensures { λ h. ⌜ Holds h (headOctets r Event.Tick) ⌝ }
+fn head_as(k: RecordKind, r: u16, e: Event) -> Head
+    ensures { λ h. ⌜ Holds h (headAs k r e) ⌝ }
 {
-    let octets = [8, high(r), low(r), 0, 0, 0, 0, 0, 0, 0, 0, 0];
-    Head { octets, size: 3 }
+    let l = layout_of(k);
+    let octets = fields_in(e, l, begun(l.octet, r));
+    Head {
+        octets,
+        size: head_size(l),
+    }
 }
 
 fn no_head() -> Head
@@ -255,27 +287,11 @@ fn no_head() -> Head
 }
 
 fn head_of(r: u16, e: Event) -> Head
-    ensures { λ h. ⌜ Holds h (headOctets r e) ⌝ }
+    ensures { λ h. ⌜ Holds h (headOctets (kindFor e) r e) ⌝ }
 {
-    match e {
-        Event::Setup {
-            reference: _,
-            rights,
-            requests,
-        } => setup_head(r, rights, requests),
-        Event::Alerting { answers } => answers_head(2, r, answers),
-        Event::Connect { answers } => answers_head(3, r, answers),
-        Event::Information { side, more: _ } => sided_head(4, r, side),
-        Event::Facility { side, what } => facility_head(r, side, what),
-        Event::Disconnect {
-            side,
-            cause,
-            answers,
-        } => disconnect_head(r, side, cause, answers),
-        Event::ReleaseComplete { side } => sided_head(7, r, side),
-        Event::Tick => tick_head(r),
-        Event::CallProceeding => no_head(),
-        Event::CongestionControl => no_head(),
+    match kind_for(e) {
+        NamedKind::Unknown => no_head(),
+        NamedKind::Known(k) => head_as(k, r, e),
     }
 }
 

@@ -1,3 +1,4 @@
-pub mod Naming
 pub mod Blank
-pub mod Sizes
+pub mod Forms
+pub mod Naming
+pub mod Rows

@@ -1,4 +1,5 @@
 pub mod Reading
 pub mod Kind
-pub mod Field
+pub mod Ranges
+pub mod ElementField
 pub mod Values

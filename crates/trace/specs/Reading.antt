@@ -1,20 +1,22 @@
 -- A record at the front of a trace.
 use Prim.Native.Nat.{ℕ, _+_, _*_}
 use mathlib.Core.List.{List}
-use mathlib.Core.Bool.{Bool, true, false, cond, _&&_}
-use lib.ListN.{length, getD, take, drop}
-use lib.Dec.{ltb, leb, eqb}
+use mathlib.Core.Bool.{false, cond}
+use lib.ListN.{length, getD}
+use lib.Dec.{ltb, eqb}
 use Rattle.event.specs.declared.Event.{Event}
 use Rattle.rights.specs.declared.Rights.{Rights}
 use Rattle.services.specs.declared.Answers.{Answers}
 use Rattle.services.specs.declared.Requests.{Requests}
 use Rattle.trace.specs.declared.kind.RecordKind.{RecordKind}
 use Rattle.trace.specs.declared.kind.NamedKind.{NamedKind}
+use Rattle.trace.specs.declared.kind.Layout.{Layout}
+use Rattle.trace.specs.declared.ranges.Tested.{Tested}
 use Rattle.trace.specs.declared.Fault.{Fault}
 use Rattle.trace.specs.declared.Entry.{Entry}
 use Rattle.trace.specs.declared.Record.{Record}
-use Rattle.trace.specs.Kind.{recordKindOf, sizeOf}
-use Rattle.trace.specs.Field.{fieldSize, fieldFitsOf}
+use Rattle.trace.specs.Kind.{recordKindOf, layoutOf, sizeOf}
+use Rattle.trace.specs.Ranges.{firstOutOf}
 use Rattle.trace.specs.Values.{flagOf, sideOf, requestOf, givenOf, whatOf}
 use Rattle.memory.specs.Stretch.{stretchOf}
 
@@ -22,53 +24,22 @@ use Rattle.memory.specs.Stretch.{stretchOf}
 abbrev pub traceFaultNumber : Fault → ℕ
 traceFaultNumber Fault.Kind = 31
 traceFaultNumber Fault.Short = 32
-traceFaultNumber Fault.Range = 33
+traceFaultNumber (Fault.Range f) = 33
 
 -- "Bodies start with the reference, high octet first." The octet of kind stands before the body.
 unfoldable pub recordReferenceOf : List ℕ → ℕ
 recordReferenceOf t = getD t 1 0 * 256 + getD t 2 0
 
--- the element field at a place
-unfoldable pub fieldAtOf : ℕ → List ℕ → Bool
-fieldAtOf p t = fieldFitsOf (take fieldSize (drop p t))
-
--- where the element field of a kind stands; 0 for a kind that has none
-abbrev pub placeOf : RecordKind → ℕ
-placeOf RecordKind.Setup = 12
-placeOf RecordKind.Alerting = 6
-placeOf RecordKind.Connect = 6
-placeOf RecordKind.Information = 4
-placeOf RecordKind.Facility = 0
-placeOf RecordKind.Disconnect = 8
-placeOf RecordKind.ReleaseComplete = 0
-placeOf RecordKind.Tick = 0
-
--- three requests or answers from a place on, each at most 2, and then the element field
-unfoldable pub closesOf : ℕ → List ℕ → Bool
-closesOf p t = ((leb (getD t p 0) 2 && leb (getD t (p + 1) 0) 2) && leb (getD t (p + 2) 0) 2) && fieldAtOf (p + 3) t
-
--- "33: late, leave or side over 1, request or answer over 2, what over 3, cause over 127, element field not of that
--- form."
-abbrev pub rangedOf : RecordKind → List ℕ → Bool
-rangedOf RecordKind.Setup t = (leb (getD t 4 0) 1 && leb (getD t 5 0) 1) && closesOf 9 t
-rangedOf RecordKind.Alerting t = closesOf 3 t
-rangedOf RecordKind.Connect t = closesOf 3 t
-rangedOf RecordKind.Information t = leb (getD t 3 0) 1 && fieldAtOf 4 t
-rangedOf RecordKind.Facility t = leb (getD t 3 0) 1 && leb (getD t 4 0) 3
-rangedOf RecordKind.Disconnect t = (leb (getD t 3 0) 1 && leb (getD t 4 0) 127) && closesOf 5 t
-rangedOf RecordKind.ReleaseComplete t = leb (getD t 3 0) 1
-rangedOf RecordKind.Tick t = true
-
 -- "1: services (bit 0 is service 1; over 7 gives 24), late, leave, limit, X, Y, three requests"
-unfoldable pub rightsOf : List ℕ → Rights
-rightsOf t =
+unfoldable pub rightsOf : ℕ → List ℕ → Rights
+rightsOf p t =
     record {
-      services = getD t 3 0;
-      late = flagOf (getD t 4 0);
-      leave = flagOf (getD t 5 0);
-      limit = getD t 6 0;
-      burst = getD t 7 0;
-      refill = getD t 8 0;
+      services = getD t p 0;
+      late = flagOf (getD t (p + 1) 0);
+      leave = flagOf (getD t (p + 2) 0);
+      limit = getD t (p + 3) 0;
+      burst = getD t (p + 4) 0;
+      refill = getD t (p + 5) 0;
     }
 
 -- three of them from a place on
@@ -79,15 +50,15 @@ unfoldable pub answersOf : ℕ → List ℕ → Answers
 answersOf p t = record { one = givenOf (getD t p 0); two = givenOf (getD t (p + 1) 0); three = givenOf (getD t (p + 2) 0) }
 
 -- "2 and 3: three answers. 4: side. 5: side, what. 6: side, cause, answers. 7: side." More data is in no trace.
-abbrev pub eventOf : RecordKind → List ℕ → Event
-eventOf RecordKind.Setup t = Event.Setup (recordReferenceOf t) (rightsOf t) (requestsOf 9 t)
-eventOf RecordKind.Alerting t = Event.Alerting (answersOf 3 t)
-eventOf RecordKind.Connect t = Event.Connect (answersOf 3 t)
-eventOf RecordKind.Information t = Event.Information (sideOf (getD t 3 0)) false
-eventOf RecordKind.Facility t = Event.Facility (sideOf (getD t 3 0)) (whatOf (getD t 4 0))
-eventOf RecordKind.Disconnect t = Event.Disconnect (sideOf (getD t 3 0)) (getD t 4 0) (answersOf 5 t)
-eventOf RecordKind.ReleaseComplete t = Event.ReleaseComplete (sideOf (getD t 3 0))
-eventOf RecordKind.Tick t = Event.Tick
+abbrev pub eventOf : RecordKind → Layout → List ℕ → Event
+eventOf RecordKind.Setup l t = Event.Setup (recordReferenceOf t) (rightsOf (l .rights) t) (requestsOf (l .requests) t)
+eventOf RecordKind.Alerting l t = Event.Alerting (answersOf (l .answers) t)
+eventOf RecordKind.Connect l t = Event.Connect (answersOf (l .answers) t)
+eventOf RecordKind.Information l t = Event.Information (sideOf (getD t (l .side) 0)) false
+eventOf RecordKind.Facility l t = Event.Facility (sideOf (getD t (l .side) 0)) (whatOf (getD t (l .what) 0))
+eventOf RecordKind.Disconnect l t = Event.Disconnect (sideOf (getD t (l .side) 0)) (getD t (l .cause) 0) (answersOf (l .answers) t)
+eventOf RecordKind.ReleaseComplete l t = Event.ReleaseComplete (sideOf (getD t (l .side) 0))
+eventOf RecordKind.Tick l t = Event.Tick
 
 -- the element's octets follow their number; a kind without an element has none
 unfoldable pub countOf : ℕ → List ℕ → ℕ
@@ -98,16 +69,20 @@ entryOf k t =
     record {
       kind = k;
       reference = recordReferenceOf t;
-      event = eventOf k t;
-      at = placeOf k + 1;
-      count = countOf (placeOf k) t;
+      event = eventOf k (layoutOf k) t;
+      at = layoutOf k .element + 1;
+      count = countOf (layoutOf k .element) t;
     }
+
+-- a record that is all there
+abbrev pub wholeOf : Tested → Entry → Record
+wholeOf Tested.InRange e = Record.Taken e
+wholeOf (Tested.Out f) e = Record.Refused (Fault.Range f)
 
 abbrev pub namedOf : NamedKind → List ℕ → Record
 namedOf NamedKind.Unknown t = Record.Refused Fault.Kind
 namedOf (NamedKind.Known k) t =
-    cond (ltb (length t) (sizeOf k)) (Record.Refused Fault.Short)
-    (cond (rangedOf k t) (Record.Taken (entryOf k t)) (Record.Refused Fault.Range))
+    cond (ltb (length t) (sizeOf k)) (Record.Refused Fault.Short) (wholeOf (firstOutOf (layoutOf k) t) (entryOf k t))
 
 -- "31, 32, 33: trace: unknown kind; record cut short; field out of range; in this order". A trace may end between
 -- records.

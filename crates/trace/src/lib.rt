@@ -1,17 +1,18 @@
 // A record of a trace, read: its event, and its element as a part of the trace; numbers 31 to 33.
 ghost use mathlib.Core.Path.{_≡_};
-ghost use Prim.Native.Nat.{_≤_, _<_, _+_};
-ghost use lib.ListN.{length};
-ghost use Rattle.trace.specs.Kind.{sizeOf};
 ghost use Rattle.trace.specs.declared.kind.NamedKind.{NamedKind};
-ghost use Rattle.trace.specs.Reading.{recordReferenceOf, fieldAtOf, placeOf, closesOf, rangedOf, rightsOf, namedOf, requestsOf, answersOf, eventOf, countOf, entryOf, recordOf, elementOf};
-use crate::field::field_fits;
+ghost use Rattle.trace.specs.Reading.{recordReferenceOf, rightsOf, namedOf, requestsOf, answersOf, eventOf, countOf, entryOf, recordOf, elementOf};
+use crate::kind::Layout;
 use crate::kind::NamedKind;
 use crate::kind::RecordKind;
+use crate::kind::layout_of;
 use crate::kind::record_kind_in;
 use crate::kind::size;
+use crate::ranges::Tested;
+use crate::ranges::first_out;
 use crate::values::flag_in;
 use crate::values::given_in;
+use crate::values::octet_at;
 use crate::values::request_in;
 use crate::values::side_in;
 use crate::values::what_in;
@@ -20,18 +21,34 @@ use memory::octet::wide;
 use memory::octet::wide16;
 use memory::stretch::stretch;
 use rights::Rights;
+use rights::Service;
 use services::Answers;
 use services::Requests;
 
-mod field;
+mod element_field;
 pub mod kind;
+pub mod ranges;
 mod values;
 
-// Why a trace goes on no further: an unknown kind, a record that is cut short, a field out of range.
+// The fields that have a range. Element: how many octets, and the two that an element begins with; Zeros: what follows
+// an element in its field.
+pub enum Field {
+    Late,
+    Leave,
+    Side,
+    What,
+    Cause,
+    Request(Service),
+    Answer(Service),
+    Element,
+    Zeros,
+}
+
+// Why a trace goes on no further: an unknown kind, a record that is cut short, the first field that is out of range.
 pub enum Fault {
     Kind,
     Short,
-    Range,
+    Range(Field),
 }
 
 // at: where the element's octets begin in the record; count: how many there are, 0 for absent.
@@ -50,130 +67,78 @@ pub enum Record {
 }
 
 fn reference(t: &[u8]) -> u16
-    requires { ⌜ 3 ≤ length (now t) ⌝ }
     ensures { λ r. ⌜ r ≡ recordReferenceOf (now (t .entry)) ⌝ }
 {
-    wide16(t[1]) * 256 + wide16(t[2])
+    wide16(octet_at(t, 1, 0)) * 256 + wide16(octet_at(t, 2, 0))
 }
 
-fn field_at(t: &[u8], p: usize) -> bool
-    requires { ⌜ p + 132 ≤ length (now t) ⌝ }
-    ensures { λ r. ⌜ r ≡ fieldAtOf p (now (t .entry)) ⌝ }
-{
-    let e = p + 132;
-    field_fits(&t[p..e])
-}
-
-// Three requests or answers from a place on, and then the element field.
-fn closes(t: &[u8], p: usize) -> bool
-    requires { ⌜ p + 135 ≤ length (now t) ⌝ }
-    ensures { λ r. ⌜ r ≡ closesOf p (now (t .entry)) ⌝ }
-{
-    (t[p] <= 2) & (t[p + 1] <= 2) & (t[p + 2] <= 2) & field_at(t, p + 3)
-}
-
-// Whether every field of a record that is all there is in range.
-fn ranged(k: RecordKind, t: &[u8]) -> bool
-    requires { ⌜ sizeOf k ≤ length (now t) ⌝ }
-    ensures { λ r. ⌜ r ≡ rangedOf k (now (t .entry)) ⌝ }
-{
-    match k {
-        RecordKind::Setup => (t[4] <= 1) & (t[5] <= 1) & closes(t, 9),
-        RecordKind::Alerting => closes(t, 3),
-        RecordKind::Connect => closes(t, 3),
-        RecordKind::Information => (t[3] <= 1) & field_at(t, 4),
-        RecordKind::Facility => (t[3] <= 1) & (t[4] <= 3),
-        RecordKind::Disconnect => (t[3] <= 1) & (t[4] <= 127) & closes(t, 5),
-        RecordKind::ReleaseComplete => t[3] <= 1,
-        RecordKind::Tick => true,
-    }
-}
-
-fn rights(t: &[u8]) -> Rights
-    requires { ⌜ 9 ≤ length (now t) ⌝ }
-    ensures { λ r. ⌜ r ≡ rightsOf (now (t .entry)) ⌝ }
+// Six octets from a place on.
+fn rights(t: &[u8], p: usize) -> Rights
+    ensures { λ r. ⌜ r ≡ rightsOf p (now (t .entry)) ⌝ }
 {
     Rights {
-        services: t[3],
-        late: flag_in(t[4]),
-        leave: flag_in(t[5]),
-        limit: t[6],
-        burst: wide16(t[7]),
-        refill: wide16(t[8]),
+        services: octet_at(t, p, 0),
+        late: flag_in(octet_at(t, p, 1)),
+        leave: flag_in(octet_at(t, p, 2)),
+        limit: octet_at(t, p, 3),
+        burst: wide16(octet_at(t, p, 4)),
+        refill: wide16(octet_at(t, p, 5)),
     }
 }
 
 fn requests(t: &[u8], p: usize) -> Requests
-    requires { ⌜ p + 3 ≤ length (now t) ⌝ }
     ensures { λ r. ⌜ r ≡ requestsOf p (now (t .entry)) ⌝ }
 {
     Requests {
-        one: request_in(t[p]),
-        two: request_in(t[p + 1]),
-        three: request_in(t[p + 2]),
+        one: request_in(octet_at(t, p, 0)),
+        two: request_in(octet_at(t, p, 1)),
+        three: request_in(octet_at(t, p, 2)),
     }
 }
 
 fn answers(t: &[u8], p: usize) -> Answers
-    requires { ⌜ p + 3 ≤ length (now t) ⌝ }
     ensures { λ r. ⌜ r ≡ answersOf p (now (t .entry)) ⌝ }
 {
     Answers {
-        one: given_in(t[p]),
-        two: given_in(t[p + 1]),
-        three: given_in(t[p + 2]),
+        one: given_in(octet_at(t, p, 0)),
+        two: given_in(octet_at(t, p, 1)),
+        three: given_in(octet_at(t, p, 2)),
     }
 }
 
-// The event of a record that is all there and in range.
-fn event(k: RecordKind, t: &[u8]) -> Event
-    requires { ⌜ sizeOf k ≤ length (now t) ⌝ }
-    ensures { λ r. ⌜ r ≡ eventOf k (now (t .entry)) ⌝ }
+// The event of a record, its fields where the layout has them.
+fn event(k: RecordKind, l: Layout, t: &[u8]) -> Event
+    ensures { λ r. ⌜ r ≡ eventOf k l (now (t .entry)) ⌝ }
 {
     match k {
         RecordKind::Setup => Event::Setup {
             reference: reference(t),
-            rights: rights(t),
-            requests: requests(t, 9),
+            rights: rights(t, l.rights),
+            requests: requests(t, l.requests),
         },
         RecordKind::Alerting => Event::Alerting {
-            answers: answers(t, 3),
+            answers: answers(t, l.answers),
         },
         RecordKind::Connect => Event::Connect {
-            answers: answers(t, 3),
+            answers: answers(t, l.answers),
         },
         RecordKind::Information => Event::Information {
-            side: side_in(t[3]),
+            side: side_in(octet_at(t, l.side, 0)),
             more: false,
         },
         RecordKind::Facility => Event::Facility {
-            side: side_in(t[3]),
-            what: what_in(t[4]),
+            side: side_in(octet_at(t, l.side, 0)),
+            what: what_in(octet_at(t, l.what, 0)),
         },
         RecordKind::Disconnect => Event::Disconnect {
-            side: side_in(t[3]),
-            cause: t[4],
-            answers: answers(t, 5),
+            side: side_in(octet_at(t, l.side, 0)),
+            cause: octet_at(t, l.cause, 0),
+            answers: answers(t, l.answers),
         },
         RecordKind::ReleaseComplete => Event::ReleaseComplete {
-            side: side_in(t[3]),
+            side: side_in(octet_at(t, l.side, 0)),
         },
         RecordKind::Tick => Event::Tick,
-    }
-}
-
-fn place(k: RecordKind) -> usize
-    ensures { λ r. ⌜ (r ≡ placeOf k) × (r ≤ 12) ⌝ }
-{
-    match k {
-        RecordKind::Setup => 12,
-        RecordKind::Alerting => 6,
-        RecordKind::Connect => 6,
-        RecordKind::Information => 4,
-        RecordKind::Facility => 0,
-        RecordKind::Disconnect => 8,
-        RecordKind::ReleaseComplete => 0,
-        RecordKind::Tick => 0,
     }
 }
 
@@ -184,20 +149,19 @@ fn count(t: &[u8], p: usize) -> usize
     if p == 0 {
         return 0;
     }
-    if p < t.len() { wide(t[p]) } else { 0 }
+    wide(octet_at(t, p, 0))
 }
 
 fn taken(k: RecordKind, t: &[u8]) -> Entry
-    requires { ⌜ sizeOf k ≤ length (now t) ⌝ }
     ensures { λ r. ⌜ r ≡ entryOf k (now (t .entry)) ⌝ }
 {
-    let p = place(k);
+    let l = layout_of(k);
     Entry {
         kind: k,
         reference: reference(t),
-        event: event(k, t),
-        at: p + 1,
-        count: count(t, p),
+        event: event(k, l, t),
+        at: l.element + 1,
+        count: count(t, l.element),
     }
 }
 
@@ -207,10 +171,10 @@ fn read_kind(k: RecordKind, t: &[u8]) -> Record
     if t.len() < size(k) {
         return Record::Refused(Fault::Short);
     }
-    if ranged(k, t) {
-        return Record::Taken(taken(k, t));
+    match first_out(layout_of(k), t) {
+        Tested::InRange => Record::Taken(taken(k, t)),
+        Tested::Out(f) => Record::Refused(Fault::Range(f)),
     }
-    Record::Refused(Fault::Range)
 }
 
 // The record at the front of a trace.

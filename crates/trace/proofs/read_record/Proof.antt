@@ -3,10 +3,6 @@ use borrow.Author.Tests.{eq-eqb, ne-eqb}
 use borrow.Author.Needs.{needs}
 use Rattle.trace.proofs.read_record.Statement.{statement}
 use Rattle.trace.proofs.read_record.Tie as tie
-use Rattle.trace.proofs.read_record.Reads as reads
-use Rattle.trace.proofs.read_record.Lts as lts
-use Rattle.trace.proofs.kind.record_kind_in.Reads as record-kind-in-reads
-use Rattle.trace.proofs.read_kind.Reads as read-kind-reads
 
 returns : tie.Need-returns
 unfolding recordOf
