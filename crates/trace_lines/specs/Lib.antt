@@ -1,3 +1,4 @@
 pub mod Notices
 pub mod Items
 pub mod Line
+pub mod Words

@@ -19,7 +19,7 @@ typeColumn (Sent.Present m) = hexOf (kindOctet (m .kind))
 
 -- a line is the line of `replay` and two more columns: only where the messages are explained
 abbrev pub saidColumns : Bool → Columns → List ℕ
-saidColumns true o = column (messageColumn (o .calling)) ++ column (messageColumn (o .called))
+saidColumns true o = column (messageColumn (o .dispatch .calling)) ++ column (messageColumn (o .dispatch .called))
 saidColumns false o = []
 
 -- kind, reference, answer and note, "in decimal"
@@ -28,7 +28,7 @@ numberColumns o =
     decimalOf (recordKindOctet (o .kind)) ++ column (decimalOf (o .reference)) ++ column (decimalOf (o .answer)) ++ column (decimalOf (noteNumberOf (o .note)))
 
 unfoldable pub typeColumns : Columns → List ℕ
-typeColumns o = column (typeColumn (o .calling)) ++ column (typeColumn (o .called))
+typeColumns o = column (typeColumn (o .dispatch .calling)) ++ column (typeColumn (o .dispatch .called))
 
 -- "then one line a record in decimal", of `replay` or, explained, of `explain`: 10 ends it
 unfoldable pub lineOf : Bool → Columns → List ℕ

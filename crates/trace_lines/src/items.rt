@@ -16,7 +16,7 @@ use sent::Sent;
 use services::Said;
 use text::decimal::write_decimal;
 
-fn put(buf: &mut [u8], at: usize, piece: &[u8]) -> usize
+pub(crate) fn put(buf: &mut [u8], at: usize, piece: &[u8]) -> usize
     requires { ⌜ at + length (now piece) ≤ length (now buf) ⌝ }
     ensures { λ r. ⌜ Piece (length (now (piece .entry))) at (now (piece .entry)) (now (buf .entry)) (now (buf .exit)) r ⌝ }
 {

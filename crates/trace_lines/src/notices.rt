@@ -27,6 +27,6 @@ pub fn write_fault(buf: &mut [u8], at: usize, f: Fault) -> Wrote
     match f {
         Fault::Kind => write_octets(buf, at, b"error 31\n"),
         Fault::Short => write_octets(buf, at, b"error 32\n"),
-        Fault::Range => write_octets(buf, at, b"error 33\n"),
+        Fault::Range(_) => write_octets(buf, at, b"error 33\n"),
     }
 }

@@ -16,19 +16,19 @@ use memory::end_of;
 use memory::write_octets;
 use message_types::kind_octet;
 use sent::Sent;
+use sent::dispatch::Dispatch;
 use text::decimal::write_decimal;
 use text::hex::write_hex;
 use trace::kind::RecordKind;
 use user_element::Note;
 
-// What the columns of a record say. answer: the paper's number; calling and called: what is sent to each user.
+// What the columns of a record say. answer: the paper's number.
 pub struct Columns {
     pub kind: RecordKind,
     pub reference: u16,
     pub answer: u8,
     pub note: Note,
-    pub calling: Sent,
-    pub called: Sent,
+    pub dispatch: Dispatch,
 }
 
 fn put_type(buf: &mut [u8], at: usize, s: Sent) -> usize
@@ -52,8 +52,9 @@ fn put_types(buf: &mut [u8], at: usize, o: Columns) -> usize
     requires { ⌜ at + 6 ≤ length (now buf) ⌝ }
     ensures { λ r. ⌜ Piece 6 at (typeColumns o) (now (buf .entry)) (now (buf .exit)) r ⌝ }
 {
-    let calling = o.calling;
-    let called = o.called;
+    let dispatch = o.dispatch;
+    let calling = dispatch.calling;
+    let called = dispatch.called;
     let a = put_type(buf, at, calling);
     put_type(buf, a, called)
 }
@@ -63,8 +64,9 @@ fn put_saids(buf: &mut [u8], at: usize, explained: bool, o: Columns) -> usize
     requires { ⌜ at + 158 ≤ length (now buf) ⌝ }
     ensures { λ r. ⌜ Piece 158 at (saidColumns explained o) (now (buf .entry)) (now (buf .exit)) r ⌝ }
 {
-    let calling = o.calling;
-    let called = o.called;
+    let dispatch = o.dispatch;
+    let calling = dispatch.calling;
+    let called = dispatch.called;
     if explained {
         let a = end_of(write_sent(buf, at, calling));
         return end_of(write_sent(buf, a, called));

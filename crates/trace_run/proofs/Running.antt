@@ -16,12 +16,13 @@ use Rattle.trace.specs.declared.kind.NamedKind.{NamedKind}
 use Rattle.trace.specs.declared.Entry.{Entry}
 use Rattle.trace.specs.declared.Fault.{Fault}
 use Rattle.trace.specs.declared.Record.{Record}
-use Rattle.trace.specs.Kind.{sizeOf, recordKindOf}
-use Rattle.trace.specs.Reading.{recordOf, namedOf, entryOf, rangedOf, elementOf}
-use Rattle.trace.proofs.Sizes.{least}
-use Rattle.trace_lines.specs.Line.{lineOf}
-use Rattle.trace_lines.specs.Notices.{faultLine}
+use Rattle.trace.specs.declared.ranges.Tested.{Tested}
+use Rattle.trace.specs.Kind.{layoutOf, sizeOf, recordKindOf}
+use Rattle.trace.specs.Ranges.{firstOutOf}
+use Rattle.trace.specs.Reading.{recordOf, namedOf, entryOf, wholeOf, elementOf}
+use Rattle.trace.proofs.Rows.{least}
 use Rattle.trace_run.specs.declared.front.Front.{Front}
+use Rattle.trace_run.specs.declared.turn.Ending.{Ending}
 use Rattle.trace_run.specs.declared.turn.Stand.{Stand}
 use Rattle.trace_run.specs.declared.turn.Move.{Move}
 use Rattle.table.specs.declared.settle.Outcome.{Outcome}
@@ -30,8 +31,9 @@ use Rattle.table.specs.Halves.{lookOf, committed}
 use Rattle.table.proofs.step.Planned.{plan-told, plan-put}
 use Rattle.table_promises.proofs.Table.{one-place}
 use Rattle.trace_run.specs.Front.{heededOf, frontOf, referenceIn, eventIn}
-use Rattle.trace_run.specs.Entry.{columnsOf, plannedAt}
-use Rattle.trace_run.specs.Run.{turnedAt, lineAt, Ran, rests, ends, goes, runIn, traceRunOf, soFar, WorkedOff}
+use Rattle.trace_run.specs.Course.{turnedAt, Answered, answeredAt, Output}
+use Rattle.trace_run.specs.Entry.{plannedAt}
+use Rattle.trace_run.specs.Run.{lineAt, Ran, ranText, rests, ends, goes, runIn, traceRunOf, soFar, WorkedOff}
 use Rattle.trace_run.specs.Turn.{halts}
 use Rattle.trace_run.specs.Move.{sizeIn, textIn, beginning, moveIn, Moved}
 
@@ -46,15 +48,15 @@ module _ (last : Bool) (t : List ℕ) where
   cut-short true = omega arith
   cut-short false = omega arith
 
-  of-kind : (k : RecordKind) (a b : Bool) → ltb (length t) (sizeOf k) ≡ a → sizeIn (heededOf last (cond a (Record.Refused Fault.Short) (cond b (Record.Taken (entryOf k t)) (Record.Refused Fault.Range)))) ≤ length t
+  of-kind : (k : RecordKind) (a : Bool) (x : Tested) → ltb (length t) (sizeOf k) ≡ a → sizeIn (heededOf last (cond a (Record.Refused Fault.Short) (wholeOf x (entryOf k t)))) ≤ length t
   unfolding entryOf
-  of-kind k true b s = cut-short last
-  of-kind k false true s = ltb-false (length t) (sizeOf k) s
-  of-kind k false false s = omega arith
+  of-kind k true x s = cut-short last
+  of-kind k false Tested.InRange s = ltb-false (length t) (sizeOf k) s
+  of-kind k false (Tested.Out f) s = omega arith
 
   of-named : (n : NamedKind) → sizeIn (heededOf last (namedOf n t)) ≤ length t
   of-named NamedKind.Unknown = omega arith
-  of-named (NamedKind.Known k) = of-kind k (ltb (length t) (sizeOf k)) (rangedOf k t) refl
+  of-named (NamedKind.Known k) = of-kind k (ltb (length t) (sizeOf k)) (firstOutOf (layoutOf k) t) refl
 
   of-record : (b : Bool) → sizeIn (heededOf last (cond b Record.End (namedOf (recordKindOf (getD t 0 0)) t))) ≤ length t
   of-record true = omega arith
@@ -81,43 +83,44 @@ at-end false last c i e h =
 faulty-some : (last : Bool) (c : List ℕ) (i : ℕ) {f : Fault} → frontOf last (drop i c) ≡ Front.Faulty f → i < length c
 faulty-some last c i h = at-end (ltb i (length c)) last c i refl h
 
-module _ (explained last : Bool) (room : ℕ) (table : List Call) (t : List ℕ) where
-  run-waits : (fuel : ℕ) → frontOf last t ≡ Front.Waits → runIn fuel explained last room table t ≡ rests table
+module _ (p : Output) (last : Bool) (room : ℕ) (table : List Call) (t : List ℕ) where
+  run-waits : (fuel : ℕ) → frontOf last t ≡ Front.Waits → runIn fuel p last room table t ≡ rests table
   unfolding runIn
   run-waits zero h = refl
   run-waits (suc k) h = rw h
 
-  run-faulty : (fuel : ℕ) {f : Fault} → 1 ≤ fuel → frontOf last t ≡ Front.Faulty f → runIn fuel explained last room table t ≡ cond (leb (length (faultLine f)) room) (ends table f) (rests table)
+  run-faulty : (fuel : ℕ) {f : Fault} → 1 ≤ fuel → frontOf last t ≡ Front.Faulty f → runIn fuel p last room table t ≡ cond (leb (length (p .fault f)) room) (ends table f) (rests table)
   unfolding runIn
   run-faulty zero k h = absurd (omega arith)
   run-faulty (suc n) k h = rw h
 
   abbrev after : ℕ → Entry → Ran
-  after fuel e = runIn fuel explained last (room - length (lineAt explained table e t)) (turnedAt table e t .calls) (drop (sizeOf (e .kind)) t)
+  after fuel e = runIn fuel p last (room - length (lineAt p table e t)) (turnedAt table e t .calls) (drop (sizeOf (e .kind)) t)
 
-  run-whole : (fuel : ℕ) {e : Entry} → frontOf last t ≡ Front.Whole e → runIn (suc fuel) explained last room table t ≡ cond (leb (length (lineAt explained table e t)) room) (goes (sizeOf (e .kind)) (lineAt explained table e t) (after fuel e)) (rests table)
+  run-whole : (fuel : ℕ) {e : Entry} → frontOf last t ≡ Front.Whole e → runIn (suc fuel) p last room table t ≡ cond (leb (length (lineAt p table e t)) room) (goes (sizeOf (e .kind)) (answeredAt table e t) (after fuel e)) (rests table)
   unfolding runIn
   run-whole fuel h = rw h
 
 -- place i of the piece c is reached, with k octets of text written and at most as many records to come as there is fuel
-pub record Going (explained last : Bool) (first : List Call) (c l : List ℕ) (fuel : ℕ) (table : List Call) (out : List ℕ) (i k : ℕ) : Type 0 where
+pub record Going (p : Output) (last : Bool) (first : List Call) (c l : List ℕ) (fuel : ℕ) (table : List Call) (out : List ℕ) (i k n : ℕ) : Type 0 where
   pub within : i ≤ length c
   pub room : k ≤ length out
   pub long : length out ≡ length l
   pub enough : length c - i ≤ fuel
-  pub calls : runIn fuel explained last (length out - k) table (drop i c) .calls ≡ traceRunOf explained last (length l) first c .calls
-  pub used : i + runIn fuel explained last (length out - k) table (drop i c) .used ≡ traceRunOf explained last (length l) first c .used
-  pub wrote : k + length (runIn fuel explained last (length out - k) table (drop i c) .text) ≡ length (traceRunOf explained last (length l) first c .text)
-  pub ended : runIn fuel explained last (length out - k) table (drop i c) .ended ≡ traceRunOf explained last (length l) first c .ended
-  pub buffer : placed k (runIn fuel explained last (length out - k) table (drop i c) .text) out ≡ placed 0 (traceRunOf explained last (length l) first c .text) l
+  pub calls : runIn fuel p last (length out - k) table (drop i c) .calls ≡ traceRunOf p last (length l) first c .calls
+  pub used : i + runIn fuel p last (length out - k) table (drop i c) .used ≡ traceRunOf p last (length l) first c .used
+  pub wrote : k + length (ranText p (runIn fuel p last (length out - k) table (drop i c))) ≡ length (ranText p (traceRunOf p last (length l) first c))
+  pub records : n + length (runIn fuel p last (length out - k) table (drop i c) .list) ≡ length (traceRunOf p last (length l) first c .list)
+  pub end : runIn fuel p last (length out - k) table (drop i c) .end ≡ traceRunOf p last (length l) first c .end
+  pub buffer : placed k (ranText p (runIn fuel p last (length out - k) table (drop i c))) out ≡ placed 0 (ranText p (traceRunOf p last (length l) first c)) l
 
-pub record Goes (explained last : Bool) (first : List Call) (c l : List ℕ) (table : List Call) (out : List ℕ) (i k : ℕ) : Type 0 where
+pub record Goes (p : Output) (last : Bool) (first : List Call) (c l : List ℕ) (table : List Call) (out : List ℕ) (i k n : ℕ) : Type 0 where
   pub fuel : ℕ
-  pub going : Going explained last first c l fuel table out i k
+  pub going : Going p last first c l fuel table out i k n
 
-pub start : (explained last : Bool) (first : List Call) (c l : List ℕ) → Goes explained last first c l first l 0 0
+pub start : (p : Output) (last : Bool) (first : List Call) (c l : List ℕ) → Goes p last first c l first l 0 0 0
 unfolding traceRunOf
-start explained last first c l =
+start p last first c l =
     let n : length l - 0 ≡ length l = omega arith in
     record {
       fuel = length c;
@@ -130,89 +133,93 @@ start explained last first c l =
             calls = rw n;
             used = rw n (omega arith);
             wrote = rw n (omega arith);
-            ended = rw n;
+            records = rw n (omega arith);
+            end = rw n;
             buffer = rw n;
           };
     }
 
-module _ (explained last : Bool) (first : List Call) (c l : List ℕ) (table : List Call) (out : List ℕ) (i k : ℕ) where
+module _ (p : Output) (last : Bool) (first : List Call) (c l : List ℕ) (table : List Call) (out : List ℕ) (i k n : ℕ) where
   abbrev toCome : ℕ → Ran
-  toCome fuel = runIn fuel explained last (length out - k) table (drop i c)
+  toCome fuel = runIn fuel p last (length out - k) table (drop i c)
 
   -- nothing is to come
-  stop : (fuel : ℕ) → Going explained last first c l fuel table out i k → toCome fuel ≡ rests table → WorkedOff explained last first c l out (record { calls = table; used = i; wrote = k; ended = false })
+  stop : (fuel : ℕ) → Going p last first c l fuel table out i k n → toCome fuel ≡ rests table → WorkedOff p last first c l out (record { calls = table; used = i; wrote = k; records = n; end = Ending.Open })
   stop fuel g e =
       record {
         calls = rw e at (g .calls);
         used = omega (arith, rw e at (g .used));
         wrote = omega (arith, rw e at (g .wrote));
-        ended = rw e at (g .ended);
+        records = omega (arith, rw e at (g .records));
+        end = rw e at (g .end);
         buffer = no-put {at = k} {l = out} .octets ∙ (rw e at (g .buffer));
       }
 
-  pub stop-waits : Goes explained last first c l table out i k → frontOf last (drop i c) ≡ Front.Waits → WorkedOff explained last first c l out (record { calls = table; used = i; wrote = k; ended = false })
-  stop-waits s h = stop (s .fuel) (s .going) (run-waits explained last (length out - k) table (drop i c) (s .fuel) h)
+  pub stop-waits : Goes p last first c l table out i k n → frontOf last (drop i c) ≡ Front.Waits → WorkedOff p last first c l out (record { calls = table; used = i; wrote = k; records = n; end = Ending.Open })
+  stop-waits s h = stop (s .fuel) (s .going) (run-waits p last (length out - k) table (drop i c) (s .fuel) h)
 
-  module _ {f : Fault} (s : Goes explained last first c l table out i k) (faulty : frontOf last (drop i c) ≡ Front.Faulty f) where
-    turns : toCome (s .fuel) ≡ cond (leb (length (faultLine f)) (length out - k)) (ends table f) (rests table)
-    turns = let h = faulty-some last c i faulty in run-faulty explained last (length out - k) table (drop i c) (s .fuel) (omega (arith, s .going .enough)) faulty
+  module _ {f : Fault} (s : Goes p last first c l table out i k n) (faulty : frontOf last (drop i c) ≡ Front.Faulty f) where
+    turns : toCome (s .fuel) ≡ cond (leb (length (p .fault f)) (length out - k)) (ends table f) (rests table)
+    turns = let h = faulty-some last c i faulty in run-faulty p last (length out - k) table (drop i c) (s .fuel) (omega (arith, s .going .enough)) faulty
 
-    fault-full : length out < k + length (faultLine f) → WorkedOff explained last first c l out (record { calls = table; used = i; wrote = k; ended = false })
+    fault-full : length out < k + length (p .fault f) → WorkedOff p last first c l out (record { calls = table; used = i; wrote = k; records = n; end = Ending.Open })
     fault-full r =
         let g = s .going in
-        let t = lt-leb (length (faultLine f)) (length out - k) (omega (arith, g .room, r)) in
+        let t = lt-leb (length (p .fault f)) (length out - k) (omega (arith, g .room, r)) in
         stop (s .fuel) g (turns ∙ ap (λ (b : Bool). cond b (ends table f) (rests table)) t)
 
-    fault-put : k + length (faultLine f) ≤ length out → WorkedOff explained last first c l (placed k (faultLine f) out) (record { calls = table; used = i; wrote = k + length (faultLine f); ended = true })
+    fault-put : k + length (p .fault f) ≤ length out → WorkedOff p last first c l (placed k (p .fault f) out) (record { calls = table; used = i; wrote = k + length (p .fault f); records = n; end = Ending.By f })
     fault-put r =
         let g = s .going in
-        let t = le-leb (length (faultLine f)) (length out - k) (omega (arith, r)) in
+        let t = le-leb (length (p .fault f)) (length out - k) (omega (arith, r)) in
         let u : toCome (s .fuel) ≡ ends table f = turns ∙ ap (λ (b : Bool). cond b (ends table f) (rests table)) t in
         record {
           calls = rw u at (g .calls);
           used = omega (arith, rw u at (g .used));
           wrote = rw u at (g .wrote);
-          ended = rw u at (g .ended);
+          records = omega (arith, rw u at (g .records));
+          end = rw u at (g .end);
           buffer = rw u at (g .buffer);
         }
 
   module _ (e : Entry) (whole : frontOf last (drop i c) ≡ Front.Whole e) where
     abbrev line : List ℕ
-    line = lineAt explained table e (drop i c)
+    line = lineAt p table e (drop i c)
 
     abbrev later : ℕ → Ran
-    later fuel = after explained last (length out - k) table (drop i c) fuel e
+    later fuel = after p last (length out - k) table (drop i c) fuel e
 
     chosen : Bool → ℕ → Ran
-    chosen b fuel = cond b (goes (sizeOf (e .kind)) line (later fuel)) (rests table)
+    chosen b fuel = cond b (goes (sizeOf (e .kind)) (answeredAt table e (drop i c)) (later fuel)) (rests table)
 
-    line-full : (fuel : ℕ) → Going explained last first c l fuel table out i k → length out < k + length line → WorkedOff explained last first c l out (record { calls = table; used = i; wrote = k; ended = false })
+    line-full : (fuel : ℕ) → Going p last first c l fuel table out i k n → length out < k + length line → WorkedOff p last first c l out (record { calls = table; used = i; wrote = k; records = n; end = Ending.Open })
     unfolding chosen
     line-full zero g r =
-        let n = whole-fits last c i whole in
+        let m = whole-fits last c i whole in
         absurd (omega (arith, g .enough, least (e .kind)))
     line-full (suc fuel) g r =
         let t = lt-leb (length line) (length out - k) (omega (arith, g .room, r)) in
-        stop (suc fuel) g (run-whole explained last (length out - k) table (drop i c) fuel whole ∙ ap (λ (b : Bool). chosen b fuel) t)
+        stop (suc fuel) g (run-whole p last (length out - k) table (drop i c) fuel whole ∙ ap (λ (b : Bool). chosen b fuel) t)
 
     module _ (r : k + length line ≤ length out) where
       as-long : length (placed k line out) ≡ length out
       as-long = length-placed k line out r
 
-      next : (fuel : ℕ) → toCome (suc fuel) ≡ goes (sizeOf (e .kind)) line (runIn fuel explained last (length (placed k line out) - (k + length line)) (turnedAt table e (drop i c) .calls) (drop (i + sizeOf (e .kind)) c))
+      next : (fuel : ℕ) → toCome (suc fuel) ≡ goes (sizeOf (e .kind)) (answeredAt table e (drop i c)) (runIn fuel p last (length (placed k line out) - (k + length line)) (turnedAt table e (drop i c) .calls) (drop (i + sizeOf (e .kind)) c))
       unfolding chosen
       next fuel =
           let a = as-long in
           let t = le-leb (length line) (length out - k) (omega (arith, r)) in
           let left : length out - k - length line ≡ length (placed k line out) - (k + length line) = omega arith in
-          run-whole explained last (length out - k) table (drop i c) fuel whole ∙ ap (λ (b : Bool). chosen b fuel) t ∙ rw (left, drop-drop (sizeOf (e .kind)) i c)
+          run-whole p last (length out - k) table (drop i c) fuel whole ∙ ap (λ (b : Bool). chosen b fuel) t ∙ rw (left, drop-drop (sizeOf (e .kind)) i c)
 
-      line-put : (fuel : ℕ) → Going explained last first c l fuel table out i k → Goes explained last first c l (turnedAt table e (drop i c) .calls) (placed k line out) (i + sizeOf (e .kind)) (k + length line)
+      line-put : (fuel : ℕ) → Going p last first c l fuel table out i k n → Goes p last first c l (turnedAt table e (drop i c) .calls) (placed k line out) (i + sizeOf (e .kind)) (k + length line) (n + 1)
+      unfolding lineAt
       line-put zero g =
-          let n = whole-fits last c i whole in
+          let m = whole-fits last c i whole in
           absurd (omega (arith, g .enough, least (e .kind)))
       line-put (suc f) g =
-          let n = whole-fits last c i whole in
+          let m = whole-fits last c i whole in
           let a = as-long in
           record {
             fuel = f;
@@ -225,8 +232,9 @@ module _ (explained last : Bool) (first : List Call) (c l : List ℕ) (table : L
                   calls = rw (next f) at (g .calls);
                   used = omega (arith, rw (next f) at (g .used));
                   wrote = omega (arith, simp length-append at (rw (next f) at (g .wrote)));
-                  ended = rw (next f) at (g .ended);
-                  buffer = placed-then k line out r (runIn f explained last (length (placed k line out) - (k + length line)) (turnedAt table e (drop i c) .calls) (drop (i + sizeOf (e .kind)) c) .text) ∙ (rw (next f) at (g .buffer));
+                  records = omega (arith, rw (next f) at (g .records));
+                  end = rw (next f) at (g .end);
+                  buffer = placed-then k line out r (ranText p (runIn f p last (length (placed k line out) - (k + length line)) (turnedAt table e (drop i c) .calls) (drop (i + sizeOf (e .kind)) c))) ∙ (rw (next f) at (g .buffer));
                 };
           }
 
@@ -235,36 +243,37 @@ pub rest-is : (c : List ℕ) (i : ℕ) → take (length c - i) (drop i c) ≡ dr
 rest-is c i = ap (λ (l : List ℕ). take (length c - i) l) (sym (append-nil (drop i c))) ∙ take-at (drop i c) [] (length c - i) (rw length-drop)
 
 -- ---- turn by turn: a run that goes on makes up what the whole piece makes, and one that does not has made it
-pub record Kept (explained last : Bool) (first : List Call) (c l : List ℕ) (s : Stand) (table : List Call) (out : List ℕ) : Type 0 where
+pub record Kept (p : Output) (last : Bool) (first : List Call) (c l : List ℕ) (s : Stand) (table : List Call) (out : List ℕ) : Type 0 where
   pub same : length table ≡ length first
   pub long : length out ≡ length l
-  pub going : s .more ≡ true → Goes explained last first c l table out (s .used) (s .wrote)
-  pub over : s .more ≡ false → WorkedOff explained last first c l out (soFar table (s .used) (s .wrote) (s .ended))
+  pub counted : s .records ≤ s .used
+  pub going : s .more ≡ true → Goes p last first c l table out (s .used) (s .wrote) (s .records)
+  pub over : s .more ≡ false → WorkedOff p last first c l out (soFar table (s .used) (s .wrote) (s .records) (s .end))
 
 -- how much is left: less after each turn
 abbrev pub leftOf : List ℕ → Stand → ℕ
 leftOf c s = cond (s .more) (suc (length c - s .used)) 0
 
-pub starts : (explained last : Bool) (first : List Call) (c l : List ℕ) → Kept explained last first c l beginning first l
-starts explained last first c l = record { same = refl; long = refl; going = λ _. start explained last first c l; over = λ e. absurd (true≢false e) }
+pub starts : (p : Output) (last : Bool) (first : List Call) (c l : List ℕ) → Kept p last first c l beginning first l
+starts p last first c l = record { same = refl; long = refl; counted = omega arith; going = λ _. start p last first c l; over = λ e. absurd (true≢false e) }
 
-module _ (explained last : Bool) (first : List Call) (c l : List ℕ) (s : Stand) (table : List Call) (out : List ℕ) (kept : Kept explained last first c l s table out) (more : s .more ≡ true) where
+module _ (p : Output) (last : Bool) (first : List Call) (c l : List ℕ) (s : Stand) (table : List Call) (out : List ℕ) (kept : Kept p last first c l s table out) (more : s .more ≡ true) where
   abbrev t : List ℕ
   t = drop (s .used) c
 
-  abbrev goes-on : Goes explained last first c l table out (s .used) (s .wrote)
+  abbrev goes-on : Goes p last first c l table out (s .used) (s .wrote) (s .records)
   goes-on = kept .going more
 
   -- what one turn comes to
   pub record Onward (out' : List ℕ) (m : Move) : Type 0 where
-    pub kept' : Kept explained last first c l (m .stand) (committed table (m .put)) out'
+    pub kept' : Kept p last first c l (m .stand) (committed table (m .put)) out'
     pub less : leftOf c (m .stand) < leftOf c s
 
   some-left : 0 < leftOf c s
   some-left = rw more (omega arith)
 
-  halted : WorkedOff explained last first c l out (soFar table (s .used) (s .wrote) false) → Onward out (halts s)
-  halted w = record { kept' = record { same = kept .same; long = kept .long; going = λ e. absurd (true≢false (sym e)); over = λ _. w }; less = some-left }
+  halted : WorkedOff p last first c l out (soFar table (s .used) (s .wrote) (s .records) Ending.Open) → Onward out (halts s)
+  halted w = record { kept' = record { same = kept .same; long = kept .long; counted = kept .counted; going = λ e. absurd (true≢false (sym e)); over = λ _. w }; less = some-left }
 
   shown : (e : Entry) → plannedAt (lookOf table (e .reference) (e .event)) e t .outcome ≡ turnedAt table e t .outcome
   unfolding plannedAt turnedAt
@@ -274,36 +283,37 @@ module _ (explained last : Bool) (first : List Call) (c l : List ℕ) (s : Stand
   unfolding plannedAt turnedAt
   left-so e = plan-put table (e .reference) (e .event) (elementOf e t)
 
-  line-so : (e : Entry) → textIn explained (Front.Whole e) (lookOf table (e .reference) (e .event)) t ≡ lineAt explained table e t
-  unfolding lineAt
-  line-so e = ap (λ (o : Outcome). lineOf explained (columnsOf e o)) (shown e)
+  line-so : (e : Entry) → textIn p (Front.Whole e) (lookOf table (e .reference) (e .event)) t ≡ lineAt p table e t
+  unfolding lineAt answeredAt
+  line-so e = ap (λ (o : Outcome). p .line (record { entry = e; outcome = o })) (shown e)
 
   same-so : (e : Entry) → length (turnedAt table e t .calls) ≡ length first
   unfolding turnedAt
   same-so e = one-place table (e .reference) (e .event) (elementOf e t) .same ∙ kept .same
 
   abbrev turned : Front → Bool → Move
-  turned f b = cond b (moveIn f (lookOf table (referenceIn f) (eventIn f)) t (length (textIn explained f (lookOf table (referenceIn f) (eventIn f)) t)) s) (halts s)
+  turned f b = cond b (moveIn f (lookOf table (referenceIn f) (eventIn f)) t s (s .wrote + length (textIn p f (lookOf table (referenceIn f) (eventIn f)) t))) (halts s)
 
   abbrev left : Front → Bool → List ℕ
-  left f b = cond b (placed (s .wrote) (textIn explained f (lookOf table (referenceIn f) (eventIn f)) t) out) out
+  left f b = cond b (placed (s .wrote) (textIn p f (lookOf table (referenceIn f) (eventIn f)) t) out) out
 
-  turn-by : (f : Front) (b : Bool) → frontOf last t ≡ f → leb (s .wrote + length (textIn explained f (lookOf table (referenceIn f) (eventIn f)) t)) (length out) ≡ b → Onward (left f b) (turned f b)
-  turn-by Front.Waits true h r = rw (sym (no-put {at = s .wrote} {l = out} .octets)) (halted (stop-waits explained last first c l table out (s .used) (s .wrote) goes-on h))
-  turn-by Front.Waits false h r = halted (stop-waits explained last first c l table out (s .used) (s .wrote) goes-on h)
+  turn-by : (f : Front) (b : Bool) → frontOf last t ≡ f → leb (s .wrote + length (textIn p f (lookOf table (referenceIn f) (eventIn f)) t)) (length out) ≡ b → Onward (left f b) (turned f b)
+  turn-by Front.Waits true h r = rw (sym (no-put {at = s .wrote} {l = out} .octets)) (halted (stop-waits p last first c l table out (s .used) (s .wrote) (s .records) goes-on h))
+  turn-by Front.Waits false h r = halted (stop-waits p last first c l table out (s .used) (s .wrote) (s .records) goes-on h)
   turn-by (Front.Faulty f) true h r =
       let n = leb-true _ _ r in
       record {
         kept' =
             record {
               same = kept .same;
-              long = length-placed (s .wrote) (faultLine f) out n ∙ kept .long;
+              long = length-placed (s .wrote) (p .fault f) out n ∙ kept .long;
+              counted = kept .counted;
               going = λ e. absurd (true≢false (sym e));
-              over = λ _. fault-put explained last first c l table out (s .used) (s .wrote) goes-on h n;
+              over = λ _. fault-put p last first c l table out (s .used) (s .wrote) (s .records) goes-on h n;
             };
         less = some-left;
       }
-  turn-by (Front.Faulty f) false h r = halted (fault-full explained last first c l table out (s .used) (s .wrote) goes-on h (leb-false _ _ r))
+  turn-by (Front.Faulty f) false h r = halted (fault-full p last first c l table out (s .used) (s .wrote) (s .records) goes-on h (leb-false _ _ r))
   turn-by (Front.Whole e) true h r =
       let n = leb-true _ _ (rw (line-so e) at r) in
       let w = whole-fits last c (s .used) h in
@@ -311,14 +321,15 @@ module _ (explained last : Bool) (first : List Call) (c l : List ℕ) (s : Stand
         kept' =
             record {
               same = rw (left-so e) (same-so e);
-              long = rw (line-so e) (length-placed (s .wrote) (lineAt explained table e t) out n ∙ kept .long);
-              going = λ _. rw (left-so e, line-so e) (line-put explained last first c l table out (s .used) (s .wrote) e h n (goes-on .fuel) (goes-on .going));
+              long = rw (line-so e) (length-placed (s .wrote) (lineAt p table e t) out n ∙ kept .long);
+              counted = omega (arith, kept .counted, least (e .kind));
+              going = λ _. rw (left-so e, line-so e) (line-put p last first c l table out (s .used) (s .wrote) (s .records) e h n (goes-on .fuel) (goes-on .going));
               over = λ e. absurd (true≢false e);
             };
         less = rw more (omega (arith, least (e .kind)));
       }
-  turn-by (Front.Whole e) false h r = halted (line-full explained last first c l table out (s .used) (s .wrote) e h (goes-on .fuel) (goes-on .going) (leb-false _ _ (rw (line-so e) at r)))
+  turn-by (Front.Whole e) false h r = halted (line-full p last first c l table out (s .used) (s .wrote) (s .records) e h (goes-on .fuel) (goes-on .going) (leb-false _ _ (rw (line-so e) at r)))
 
-  pub turns-on : {f : Front} {k : Looked} {out' : List ℕ} {m : Move} → f ≡ frontOf last t → k ≡ lookOf table (referenceIn f) (eventIn f) → Moved explained f k t s out out' m → Onward out' m
+  pub turns-on : {f : Front} {k : Looked} {out' : List ℕ} {m : Move} → f ≡ frontOf last t → k ≡ lookOf table (referenceIn f) (eventIn f) → Moved p f k t s out out' m → Onward out' m
   turns-on {f} {k} ef ek w =
-      rw (w .turn, w .buffer, ek) (turn-by f (leb (s .wrote + length (textIn explained f (lookOf table (referenceIn f) (eventIn f)) t)) (length out)) (sym ef) refl)
+      rw (w .turn, w .buffer, ek) (turn-by f (leb (s .wrote + length (textIn p f (lookOf table (referenceIn f) (eventIn f)) t)) (length out)) (sym ef) refl)

@@ -22,6 +22,5 @@ columnsOf e o =
       reference = e .reference;
       answer = verdictNumber (o .verdict);
       note = o .note;
-      calling = o .calling;
-      called = o .called;
+      dispatch = o .dispatch;
     }

@@ -1,4 +1,4 @@
--- What a piece of trace begins with, what that asks of the table, and the columns of what it is answered.
+-- What a piece of trace begins with, and what that asks of the table.
 use Prim.Native.Nat.{ℕ}
 use mathlib.Core.List.{List}
 use mathlib.Core.Bool.{Bool, cond}
@@ -14,7 +14,7 @@ heededOf last Record.End = Front.Waits
 heededOf last (Record.Taken e) = Front.Whole e
 heededOf last (Record.Refused Fault.Kind) = Front.Faulty Fault.Kind
 heededOf last (Record.Refused Fault.Short) = cond last (Front.Faulty Fault.Short) Front.Waits
-heededOf last (Record.Refused Fault.Range) = Front.Faulty Fault.Range
+heededOf last (Record.Refused (Fault.Range f)) = Front.Faulty (Fault.Range f)
 
 -- what a piece of trace begins with; last says that nothing comes after the piece
 unfoldable pub frontOf : Bool → List ℕ → Front

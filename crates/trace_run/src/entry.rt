@@ -25,15 +25,13 @@ pub(crate) fn columns_of(e: Entry, o: Outcome) -> Columns
     let reference = e.reference;
     let verdict = o.verdict;
     let note = o.note;
-    let calling = o.calling;
-    let called = o.called;
+    let dispatch = o.dispatch;
     let answer = verdict_number(verdict);
     Columns {
         kind: kind,
         reference: reference,
         answer: answer,
         note: note,
-        calling: calling,
-        called: called,
+        dispatch: dispatch,
     }
 }

@@ -6,6 +6,7 @@ ghost use lib.ListN.{length, drop};
 ghost use Rattle.trace.specs.Kind.{sizeOf};
 ghost use Rattle.trace_run.specs.declared.front.Front.{Front};
 ghost use Rattle.trace_run.specs.Front.{frontOf};
+ghost use Rattle.trace_run.specs.Course.{lines};
 ghost use Rattle.trace_run.specs.Run.{soFar, WorkedOff};
 ghost use Rattle.trace_run.specs.Move.{sizeIn, beginning, Moved};
 use crate::entry::columns_of;
@@ -14,6 +15,7 @@ use crate::front::Front;
 use crate::front::event_in;
 use crate::front::front_of;
 use crate::front::reference_in;
+use crate::turn::Ending;
 use crate::turn::Move;
 use crate::turn::Stand;
 use crate::turn::fault_turn;
@@ -32,12 +34,14 @@ mod entry;
 pub mod front;
 pub mod turn;
 
-// used: how many octets of the piece; wrote: how many octets of text; ended: whether a fault ended the run.
+// used: how many octets of the piece; wrote: how many octets of text; records: how many records; end: whether a fault
+// ended the run.
 pub struct Worked {
     pub calls: [Call; 32],
     pub used: usize,
     pub wrote: usize,
-    pub ended: bool,
+    pub records: usize,
+    pub end: Ending,
 }
 
 // The front of what is left of the piece.
@@ -54,32 +58,34 @@ fn front_at(last: bool, piece: &[u8], s: Stand) -> Front
 
 // A whole record prints its line, and only then has something put into the table.
 fn record_turn(piece: &[u8], e: Entry, l: Looked, explained: bool, out: &mut [u8], s: Stand) -> Move
-    requires { ⌜ s .used + sizeOf (e .kind) ≤ length (now piece) ⌝ }
-    ensures { λ r. ⌜ Moved explained (Front.Whole e) l (drop (s .used) (now (piece .entry))) s (now (out .entry)) (now (out .exit)) r ⌝ }
+    requires { ⌜ (s .used + sizeOf (e .kind) ≤ length (now piece)) × (s .records ≤ s .used) ⌝ }
+    ensures { λ r. ⌜ Moved (lines explained) (Front.Whole e) l (drop (s .used) (now (piece .entry))) s (now (out .entry)) (now (out .exit)) r ⌝ }
 {
     let i = s.used;
     let k = s.wrote;
     let kind = e.kind;
     let n = size(kind);
     let next = i + n;
+    let records = s.records + 1;
     let p = planned(l, e, &piece[i..]);
     let outcome = p.outcome;
     let put = p.put;
     let columns = columns_of(e, outcome);
     let w = write_line(out, k, explained, columns);
-    once_written(w, put, next, false, true, s)
+    once_written(w, put, next, records, Ending::Open, true, s)
 }
 
 // One turn: what the front of the piece makes of the run.
 fn decide(piece: &[u8], f: Front, l: Looked, explained: bool, out: &mut [u8], s: Stand) -> Move
-    requires { ⌜ s .used + sizeIn f ≤ length (now piece) ⌝ }
-    ensures { λ r. ⌜ Moved explained f l (drop (s .used) (now (piece .entry))) s (now (out .entry)) (now (out .exit)) r ⌝ }
+    requires { ⌜ (s .used + sizeIn f ≤ length (now piece)) × (s .records ≤ s .used) ⌝ }
+    ensures { λ r. ⌜ Moved (lines explained) f l (drop (s .used) (now (piece .entry))) s (now (out .entry)) (now (out .exit)) r ⌝ }
 {
     match f {
         Front::Waits => {
             let i = s.used;
             let k = s.wrote;
-            moves(Change::Nothing, i, k, false, false)
+            let n = s.records;
+            moves(Change::Nothing, i, k, n, Ending::Open, false)
         }
         Front::Faulty(x) => fault_turn(x, out, s),
         Front::Whole(e) => record_turn(piece, e, l, explained, out, s),
@@ -106,7 +112,8 @@ fn at_start() -> Stand
     Stand {
         used: 0,
         wrote: 0,
-        ended: false,
+        records: 0,
+        end: Ending::Open,
         more: true,
     }
 }
@@ -118,13 +125,15 @@ fn goes_on(s: Stand) -> bool
 }
 
 fn so_far(calls: [Call; 32], s: Stand) -> Worked
-    ensures { λ r. ⌜ r ≡ soFar calls (s .used) (s .wrote) (s .ended) ⌝ }
+    ensures { λ r. ⌜ r ≡ soFar calls (s .used) (s .wrote) (s .records) (s .end) ⌝ }
 {
+    let end = s.end;
     Worked {
         calls: calls,
         used: s.used,
         wrote: s.wrote,
-        ended: s.ended,
+        records: s.records,
+        end: end,
     }
 }
 
@@ -138,7 +147,7 @@ pub fn work_off_at(
     explained: bool,
     out: &mut [u8],
 ) -> Stand
-    ensures { λ r. ⌜ WorkedOff explained last (now (t .entry)) (now (piece .entry)) (now (out .entry)) (now (out .exit)) (soFar (now (t .exit)) (r .used) (r .wrote) (r .ended)) × (r .more ≡ false) ⌝ }
+    ensures { λ r. ⌜ WorkedOff (lines explained) last (now (t .entry)) (now (piece .entry)) (now (out .entry)) (now (out .exit)) (soFar (now (t .exit)) (r .used) (r .wrote) (r .records) (r .end)) × (r .more ≡ false) ⌝ }
 {
     let mut s = at_start();
     while goes_on(s) {
@@ -163,7 +172,7 @@ pub fn work_off(
     explained: bool,
     out: &mut [u8],
 ) -> Worked
-    ensures { λ r. ⌜ WorkedOff explained last calls (now (piece .entry)) (now (out .entry)) (now (out .exit)) r ⌝ }
+    ensures { λ r. ⌜ WorkedOff (lines explained) last calls (now (piece .entry)) (now (out .entry)) (now (out .exit)) r ⌝ }
 {
     let mut t = calls;
     let s = work_off_at(&mut t, piece, last, explained, out);

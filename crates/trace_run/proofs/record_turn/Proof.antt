@@ -1,5 +1,6 @@
 use Rattle.trace_run.proofs.Running.{rest-is}
 use Rattle.trace_run.proofs.Moving.{line-prints}
+use native.Mathlib.Omega.{arith}
 use borrow.Author.Needs.{needs}
 use Rattle.trace_run.proofs.record_turn.Statement.{statement}
 use Rattle.trace_run.proofs.record_turn.Tie as tie
@@ -16,6 +17,9 @@ size-requires c κs = search needs
 
 add-next : tie.Need-add-next
 add-next c = search needs
+
+add-records : tie.Need-add-records
+add-records c = let h = c .before .before .before .before .pre in omega (arith, h .0, h .1)
 
 sub-planned : tie.Need-sub-planned
 sub-planned c = search needs
@@ -42,7 +46,7 @@ same-length : tie.Need-same-length
 same-length c = search needs
 
 returns : tie.Need-returns
-returns c = line-prints _ _ _ _ (rw (rest-is (c .before .before .before .before .before .before .before .before .before .before .before .before .args .piece .now) (c .before .before .before .before .before .before .before .before .before .before .before .before .args .s .used)) at (c .before .before .before .before .before .before .before .planned .ensures)) (c .before .before .before .before .before .columns-of .ensures) (c .before .before .before .before .before .before .before .before .before .size .ensures) (c .before .before .before .write-line .ensures) (c .once-written .ensures)
+returns c = line-prints _ _ _ _ (rw (rest-is (c .before .before .before .before .before .before .before .before .before .before .before .before .before .args .piece .now) (c .before .before .before .before .before .before .before .before .before .before .before .before .before .args .s .used)) at (c .before .before .before .before .before .before .before .planned .ensures)) (c .before .before .before .before .before .columns-of .ensures) (c .before .before .before .before .before .before .before .before .before .before .size .ensures) (c .before .before .before .write-line .ensures) (c .once-written .ensures)
 
 pub record-turn-spec : {M : Type 1} → statement M
 record-turn-spec =
@@ -50,6 +54,7 @@ record-turn-spec =
     (tie.spec
     size-requires
     add-next
+    add-records
     sub-planned
     part-planned-start
     part-planned-end

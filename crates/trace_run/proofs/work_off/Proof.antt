@@ -52,6 +52,7 @@ use Rattle.table.proofs.Ends.{full, forgets, frees-all}
 use Rattle.flow_meter.proofs.Plainly.{pre-plain, calls-lasts, calls-plain, leaves}
 use Rattle.trace_run.specs.declared.turn.Stand.{Stand}
 use Rattle.trace_run.specs.declared.Worked.{Worked}
+use Rattle.trace_run.specs.Course.{lines}
 use Rattle.trace_run.specs.Run.{soFar, WorkedOff}
 use Rattle.trace_run.proofs.turn.Stand as S
 use Rattle.trace_run.proofs.turn.Stand.Laws as S′
@@ -127,7 +128,7 @@ module _ {M : Type 1} (𝓤 : URA M) (H : Heap 𝓤) (A : Atoms 𝓤) (W : Given
   Post = walkOf 𝓤 H A f.ended stayed (f.clauses 𝓤 H A at-mem run) .post (((κ, (κ₁, tt)), (q, (q₁, tt)), tt, a, vals), tt)
 
   -- what is had of the parameters at exit
-  exits : (r : Worked) (os : List ℕ) → Is R.the-row r (rval r ∷ []) → length os ≡ length zs → WorkedOff explained last ys es zs os r
+  exits : (r : Worked) (os : List ℕ) → Is R.the-row r (rval r ∷ []) → length os ≡ length zs → WorkedOff (lines explained) last ys es zs os r
       → ent 𝓤 (⋆ 𝓤 H A ((‵ (flft κ q) ⊛ (‵ (flft κ₁ q₁) ⊛ ‵ ftrue)) ∷ ‵ (fsep ftrue (fsep ftrue (fsep ftrue (fsep ftrue (fsep (MutSlice (named 1) κ₁ u8 .own (x₂ γ₂ os) (s₂ ∷ [])) ftrue))))) ∷ [])) (Post (rval r))
   exits r os is same er = leaves 𝓤 H A W f.ended stayed (f.clauses 𝓤 H A at-mem run) (((κ, (κ₁, tt)), (q, (q₁, tt)), tt, a, vals), tt) (rval r) r (tt, (tt, (tt, (tt, (os, tt))))) (tt, (tt, (tt, (tt, (same, tt)))))
       (LL.makes R.the-type R′.the-plain 𝓤 H A r _ is) (factI 𝓤 _ (emp 𝓤) er) _ (id⊢ 𝓤 _)
@@ -186,7 +187,7 @@ module _ {M : Type 1} (𝓤 : URA M) (H : Heap 𝓤) (A : Atoms 𝓤) (W : Given
           move ! (2 ∷ 6 ∷ []) $ join ! $ move ! (6 ∷ 0 ∷ []) $ join ! $ move ! (5 ∷ 0 ∷ []) $ join ! $ move ! (8 ∷ 1 ∷ []) $ fjoin ! $ move ! (3 ∷ 0 ∷ []) $ fjoin ! $ move ! (1 ∷ 0 ∷ []) $ use2 W (raw (G 𝓤 H A at-mem run .pre (to-g l₆ ν δ ν₁ δ₁, tt))) (goes-g l₆ ν δ ν₁ δ₁) $
           -- [the call's; the buffer's lender; the array's; true; three parameters'; the locals from 7 on, without the
           -- array's cell]
-          calls-lasts ! fm g.ended (g.clauses 𝓤 H A at-mem run) known-g (to-g l₆ ν δ ν₁ δ₁) tt (λ w ws. WorkedOff explained last ys es zs (ws .1 .1 .1 .1 .0) (soFar (ws .0) (w .used) (w .wrote) (w .ended)) × (w .more ≡ false)) (λ _ ws. id⊢ 𝓤 _) sval (LL.tells S.the-type S′.the-laws)
+          calls-lasts ! fm g.ended (g.clauses 𝓤 H A at-mem run) known-g (to-g l₆ ν δ ν₁ δ₁) tt (λ w ws. WorkedOff (lines explained) last ys es zs (ws .1 .1 .1 .1 .0) (soFar (ws .0) (w .used) (w .wrote) (w .records) (w .end)) × (w .more ≡ false)) (λ _ ws. id⊢ 𝓤 _) sval (LL.tells S.the-type S′.the-laws)
           (and-then ! (load ! (from ! (stop !)) (look ! 13 refl)) (and-then ! (load ! (from ! (stop !)) (look ! 28 refl)) (and-then ! (load ! (from ! (stop !)) (look ! 26 refl)) (and-then ! (load ! (from ! (stop !)) (look ! 24 refl)) (and-then ! (load ! (from ! (stop !)) (look ! 9 refl)) (no-more !)))))) (λ w ws ew isw.
           land ! (from ! (stop !)) (init ! 20 refl (LL.lawful S.the-type S′.the-laws 𝓤 H A W .typed w _ isw .0)) $
           -- both lifetimes are ended: the buffer and the array come back, each at its last list
@@ -196,13 +197,13 @@ module _ {M : Type 1} (𝓤 : URA M) (H : Heap 𝓤) (A : Atoms 𝓤) (W : Given
           use3 W (later (given (Is (Array T.the-row 32) (ws .0) (val32 (ws .0) ∷ [])) (‵ (Cell 𝓤 H A W T.the-row tt val (LL.tells T.the-type T′.the-laws) 32 l₆ 0 (ws .0))))) (array-back 𝓤 H A W T.the-row tt val (LL.tells T.the-type T′.the-laws) 32 l₆ 0 (ν ∷ []) δ (ws .0)) $ await ! tt $ learn ! (λ isz.
           keep ! (0 ∷ 1 ∷ 2 ∷ 3 ∷ 4 ∷ 13 ∷ 14 ∷ 15 ∷ 16 ∷ 17 ∷ 18 ∷ 19 ∷ 20 ∷ 21 ∷ 22 ∷ 23 ∷ 24 ∷ 25 ∷ 26 ∷ 27 ∷ 28 ∷ 29 ∷ 30 ∷ 31 ∷ 32 ∷ 33 ∷ 34 ∷ 35 ∷ 36 ∷ 37 ∷ 38 ∷ 39 ∷ []) $
           assigns ! (of-opd ! (load ! (from ! (stop !)) (look ! 0 refl))) (from ! (stop !)) (init ! 5 refl (typed (ws .0) isz)) $
-          calls-plain ! fm m.ended (m.clauses 𝓤 H A at-mem run) known-m (to-m (ws .0) w) tt (goes-m (ws .0) w isz isw) (λ r. r ≡ soFar (ws .0) (w .used) (w .wrote) (w .ended)) (λ _ us. id⊢ 𝓤 _) rval (LL.tells R.the-type R′.the-laws) (and-then ! (load ! (from ! (stop !)) (look ! 6 refl)) (and-then ! (load ! (from ! (stop !)) (look ! 18 refl)) (no-more !))) (λ r er isr.
+          calls-plain ! fm m.ended (m.clauses 𝓤 H A at-mem run) known-m (to-m (ws .0) w) tt (goes-m (ws .0) w isz isw) (λ r. r ≡ soFar (ws .0) (w .used) (w .wrote) (w .records) (w .end)) (λ _ us. id⊢ 𝓤 _) rval (LL.tells R.the-type R′.the-laws) (and-then ! (load ! (from ! (stop !)) (look ! 6 refl)) (and-then ! (load ! (from ! (stop !)) (look ! 18 refl)) (no-more !))) (λ r er isr.
           land ! (from ! (stop !)) (init ! 15 refl (LL.lawful R.the-type R′.the-laws 𝓤 H A W .typed r _ isr .0)) $
           assigns ! (of-opd ! (load ! (from ! (stop !)) (look ! 15 refl))) (from ! (stop !)) (init ! 30 refl (LL.lawful R.the-type R′.the-laws 𝓤 H A W .typed r _ isr .0)) $
           returns ! (look ! 30 refl) $ forgets ! (0 ∷ 5 ∷ 7 ∷ 9 ∷ 11 ∷ 13 ∷ 15 ∷ 17 ∷ 20 ∷ 22 ∷ 24 ∷ 26 ∷ 28 ∷ 30 ∷ []) (full, (full, (full, (full, (full, (full, (full, (full, (full, (full, (full, (full, (full, (full, tt)))))))))))))) $
           move ! (30 ∷ 31 ∷ 28 ∷ 29 ∷ 26 ∷ 27 ∷ 24 ∷ 25 ∷ 22 ∷ 23 ∷ 20 ∷ 21 ∷ 0 ∷ 19 ∷ 17 ∷ 18 ∷ 15 ∷ 16 ∷ 13 ∷ 14 ∷ 11 ∷ 12 ∷ 9 ∷ 10 ∷ 7 ∷ 8 ∷ 5 ∷ 6 ∷ []) $ frees-all ! $
           move ! (1 ∷ 2 ∷ []) $ join ! $ move ! (2 ∷ 0 ∷ []) $ join ! $ nothing ! $ move ! (2 ∷ 0 ∷ []) $ fjoin ! $ nothing ! $ fjoin ! $ nothing ! $ fjoin ! $ nothing ! $ fjoin ! $ nothing ! $ fjoin ! $ move ! (1 ∷ 0 ∷ []) $
-          by ! (exits r (ws .1 .1 .1 .1 .0) isr same (subst (WorkedOff explained last ys es zs (ws .1 .1 .1 .1 .0)) (sym er) (ew .0))))))))))))
+          by ! (exits r (ws .1 .1 .1 .1 .0) isr same (subst (WorkedOff (lines explained) last ys es zs (ws .1 .1 .1 .1 .0)) (sym er) (ew .0))))))))))))
 
     walk : ent 𝓤 (onEntry 𝓤 H A f.signature (κ, (κ₁, tt)) (q, (q₁, tt)) a vals) (WpFn 𝓤 H C Λ code.function (val32 ys ∷ s₁ ∷ vbool last ∷ vbool explained ∷ s₂ ∷ []) Post)
     walk =

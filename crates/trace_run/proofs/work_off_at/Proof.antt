@@ -65,6 +65,7 @@ use Rattle.trace_run.specs.declared.turn.Move.{Move}
 use Rattle.trace_run.specs.declared.turn.Stand.{Stand}
 use Rattle.trace_run.specs.Front.{referenceIn, eventIn, frontOf}
 use Rattle.trace_run.specs.Move.{sizeIn, beginning, Moved}
+use Rattle.trace_run.specs.Course.{lines}
 use Rattle.trace_run.specs.Run.{soFar, WorkedOff}
 use Rattle.trace_run.proofs.Lent.{shares, lends, shared-back, lent-back}
 use Rattle.trace_run.proofs.Running.{Kept, leftOf, starts, front-fits, turns-on}
@@ -161,7 +162,7 @@ record Here (explained last : Bool) (first : List Call) (c l : List ℕ) : Type 
   stand : Stand
   table : List Call
   out : List ℕ
-  kept : Kept explained last first c l stand table out
+  kept : Kept (lines explained) last first c l stand table out
   typed : Is S.the-row stand (sval stand ∷ [])
 
 -- the contracts that the proof cites
@@ -225,7 +226,7 @@ module _ {M : Type 1} (𝓤 : URA M) (H : Heap 𝓤) (A : Atoms 𝓤) (W : Given
   Post = walkOf 𝓤 H A f.ended stayed (f.clauses 𝓤 H A at-mem run) .post (((κ, (κ₁, (κ₂, tt))), (q, (q₁, (q₂, tt))), tt, a, vals), tt)
 
   -- what is had of the parameters at exit
-  exits : (w : Stand) (ts : List Call) (os : List ℕ) → Is S.the-row w (sval w ∷ []) → length ts ≡ length ys → length os ≡ length zs → WorkedOff explained last ys es zs os (soFar ts (w .used) (w .wrote) (w .ended)) × (w .more ≡ false)
+  exits : (w : Stand) (ts : List Call) (os : List ℕ) → Is S.the-row w (sval w ∷ []) → length ts ≡ length ys → length os ≡ length zs → WorkedOff (lines explained) last ys es zs os (soFar ts (w .used) (w .wrote) (w .records) (w .end)) × (w .more ≡ false)
       → ent 𝓤 (⋆ 𝓤 H A ((‵ (flft κ q) ⊛ (‵ (flft κ₁ q₁) ⊛ (‵ (flft κ₂ q₂) ⊛ ‵ ftrue))) ∷ ‵ (fsep (MutSlice (named 0) κ T.the-row .own (x γ ts) (s ∷ [])) (fsep ftrue (fsep ftrue (fsep ftrue (fsep (MutSlice (named 2) κ₂ u8 .own (x₂ γ₂ os) (s₂ ∷ [])) ftrue))))) ∷ [])) (Post (sval w))
   exits w ts os is same same₂ ew = leaves 𝓤 H A W f.ended stayed (f.clauses 𝓤 H A at-mem run) (((κ, (κ₁, (κ₂, tt))), (q, (q₁, (q₂, tt))), tt, a, vals), tt) (sval w) w (ts, (tt, (tt, (tt, (os, tt))))) (same, (tt, (tt, (tt, (same₂, tt)))))
       (LL.makes S.the-type S′.the-plain 𝓤 H A w _ is) (factI 𝓤 _ (emp 𝓤) ew) _ (id⊢ 𝓤 _)
@@ -286,7 +287,7 @@ module _ {M : Type 1} (𝓤 : URA M) (H : Heap 𝓤) (A : Atoms 𝓤) (W : Given
   abbrev to-dc : ℕ → GName → List ℕ → Front → Looked → Stand → Bound 𝓤 H A dc.signature
   to-dc ν δ os f k w = ((κ₁, (ν ∷ [], tt)), (q₁, (fullShare, tt)), tt, (x₁, (f, (k, (explained, (x₂ δ os, (w, tt)))))), (s₁ ∷ [], (fval f ∷ [], (kval k ∷ [], (vbool explained ∷ [], (s₂ ∷ [], (sval w ∷ [], tt)))))))
 
-  goes-dc : (ν : ℕ) (δ : GName) (os : List ℕ) (f : Front) (k : Looked) (w : Stand) → Is F.the-row f (fval f ∷ []) → Is K.the-row k (kval k ∷ []) → Is S.the-row w (sval w ∷ []) → w .used + sizeIn f ≤ length es
+  goes-dc : (ν : ℕ) (δ : GName) (os : List ℕ) (f : Front) (k : Looked) (w : Stand) → Is F.the-row f (fval f ∷ []) → Is K.the-row k (kval k ∷ []) → Is S.the-row w (sval w ∷ []) → (w .used + sizeIn f ≤ length es) × (w .records ≤ w .used)
       → ent 𝓤 (sep 𝓤 (sem 𝓤 H A (fsep (ShrSlice (named 1) κ₁ u8 .own x₁ (s₁ ∷ [])) (MutSlice (named 2) (ν ∷ []) u8 .own (x₂ δ os) (s₂ ∷ [])))) (sep 𝓤 (sep 𝓤 (A .lft κ₁ q₁) (emp 𝓤)) (A .lft (ν ∷ []) fullShare))) (Dc 𝓤 H A at-mem run .pre (to-dc ν δ os f k w, tt))
   goes-dc ν δ os f k w isf isk isw within =
       qed W (‵ (fsep (ShrSlice (named 1) κ₁ u8 .own x₁ (s₁ ∷ [])) (MutSlice (named 2) (ν ∷ []) u8 .own (x₂ δ os) (s₂ ∷ []))) ∷ (‵ (flft κ₁ q₁) ⊛ ‵ ftrue) ∷ ‵ (flft (ν ∷ []) fullShare) ∷ []) ∵
@@ -366,7 +367,7 @@ module _ {M : Type 1} (𝓤 : URA M) (H : Heap 𝓤) (A : Atoms 𝓤) (W : Given
           lft-new ! tt (λ ν₁. move ! (5 ∷ 6 ∷ []) $
           use2 W (later (some (λ (δ₁ : GName). ‵ (MutSlice (named 2) (ν₁ ∷ []) u8 .own (x₂ δ₁ (h .out)) (s₂ ∷ [])) ⊛ ‵ (LentAgain u8 κ₂ (ν₁ ∷ []) q₂ γ₂ b₂ o₂ δ₁ (h .out))))) (lends 𝓤 H A W u8 κ₂ (ν₁ ∷ []) q₂ γ₂ b₂ o₂ (length zs) (h .out) (h .kept .long) (named 2) (named 2)) $ await ! tt $ pick ! (λ δ₁. split ! $
           move ! (6 ∷ []) $ use1 W (‵ (ShrSlice (named 1) κ₁ u8 .own x₁ (s₁ ∷ [])) ⊛ ‵ (ShrSlice (named 1) κ₁ u8 .own x₁ (s₁ ∷ []))) (shr-slice-copy 𝓤 H A W (named 1) κ₁ u8 .twice x₁ _) $ split ! $ move ! (0 ∷ 2 ∷ []) $ fjoin ! $ move ! (0 ∷ 6 ∷ 3 ∷ []) $ use3 W (raw (Dc 𝓤 H A at-mem run .pre (to-dc ν₁ δ₁ (h .out) f r (h .stand), tt))) (goes-dc ν₁ δ₁ (h .out) f r (h .stand) isf isr (h .typed) (within f ef)) $
-          calls-lasts ! (fmOf 𝓤 H (W .laws) 𝓣) dc.ended (dc.clauses 𝓤 H A at-mem run) known-dc (to-dc ν₁ δ₁ (h .out) f r (h .stand)) tt (λ m ws. Moved explained f r (dropL (h .stand .used) es) (h .stand) (h .out) (ws .1 .1 .1 .1 .0) m) (λ _ ws. id⊢ 𝓤 _) vval (LL.tells O.the-type O′.the-laws)
+          calls-lasts ! (fmOf 𝓤 H (W .laws) 𝓣) dc.ended (dc.clauses 𝓤 H A at-mem run) known-dc (to-dc ν₁ δ₁ (h .out) f r (h .stand)) tt (λ m ws. Moved (lines explained) f r (dropL (h .stand .used) es) (h .stand) (h .out) (ws .1 .1 .1 .1 .0) m) (λ _ ws. id⊢ 𝓤 _) vval (LL.tells O.the-type O′.the-laws)
           (and-then ! (load ! (from ! (stop !)) (look ! 43 refl)) (and-then ! (load ! (from ! (stop !)) (look ! 33 refl)) (and-then ! (load ! (from ! (stop !)) (look ! 27 refl)) (and-then ! (load ! (from ! (stop !)) (look ! 39 refl)) (and-then ! (load ! (from ! (stop !)) (look ! 11 refl)) (and-then ! (load ! (from ! (stop !)) (look ! 35 refl)) (no-more !))))))) (λ m ws em ism.
           land ! (from ! (stop !)) (init ! 26 refl (LL.lawful O.the-type O′.the-laws 𝓤 H A W .typed m _ ism .0)) $
           fsplit ! $ move ! (1 ∷ []) $ fsplit ! $ move ! (1 ∷ []) $ fsplit ! $ move ! (1 ∷ []) $ fsplit ! $ move ! (1 ∷ []) $ fsplit ! $ fsplit ! $ move ! (1 ∷ []) $ feqL ! (λ same₂. move ! (6 ∷ []) $ use1 W (‵ (flft κ₁ q₁) ⊛ (‵ (flft (ν₁ ∷ []) fullShare) ⊛ ‵ ftrue)) (id⊢ 𝓤 _) $ split ! $ move ! (1 ∷ []) $ split ! $ lft-end ! tt $ move ! (0 ∷ 10 ∷ 3 ∷ []) $
@@ -392,14 +393,14 @@ module _ {M : Type 1} (𝓤 : URA M) (H : Heap 𝓤) (A : Atoms 𝓤) (W : Given
           forgets ! (6 ∷ 8 ∷ 10 ∷ 12 ∷ 14 ∷ 16 ∷ 18 ∷ 20 ∷ 22 ∷ 24 ∷ 26 ∷ 28 ∷ 30 ∷ 32 ∷ 34 ∷ []) (full, (full, (full, (full, (full, (full, (full, (full, (full, (full, (full, (full, (full, (full, (full, tt))))))))))))))) $
           again ! ≺ I h (onto f ef r (er ∙ (λ j. lookOf (h .table) (ek j) (ev′ j))) m (ws .1 .1 .1 .1 .0) em p ep (us .0) eu w ew isw .0) (onto f ef r (er ∙ (λ j. lookOf (h .table) (ek j) (ev′ j))) m (ws .1 .1 .1 .1 .0) em p ep (us .0) eu w ew isw .1))))))))))))))))))
         where
-          within : (f : Front) → f ≡ frontOf last (dropL (h .stand .used) es) → h .stand .used + sizeIn f ≤ length es
-          within f ef = subst (λ (g : Front). h .stand .used + sizeIn g ≤ length es) (sym ef) (front-fits last es (h .stand .used) (h .kept .going e .going .within))
+          within : (f : Front) → f ≡ frontOf last (dropL (h .stand .used) es) → (h .stand .used + sizeIn f ≤ length es) × (h .stand .records ≤ h .stand .used)
+          within f ef = (subst (λ (g : Front). h .stand .used + sizeIn g ≤ length es) (sym ef) (front-fits last es (h .stand .used) (h .kept .going e .going .within)), h .kept .counted)
 
-          onto : (f : Front) → f ≡ frontOf last (dropL (h .stand .used) es) → (r : Looked) → r ≡ lookOf (h .table) (referenceIn f) (eventIn f) → (m : Move) (os : List ℕ) → Moved explained f r (dropL (h .stand .used) es) (h .stand) (h .out) os m
+          onto : (f : Front) → f ≡ frontOf last (dropL (h .stand .used) es) → (r : Looked) → r ≡ lookOf (h .table) (referenceIn f) (eventIn f) → (m : Move) (os : List ℕ) → Moved (lines explained) f r (dropL (h .stand .used) es) (h .stand) (h .out) os m
               → (p : Change) → p ≡ m .put → (ts : List Call) → ts ≡ committed (h .table) p → (w : Stand) → w ≡ m .stand → Is S.the-row w (sval w ∷ []) → (h′ : Hr) × ≺ h′ h
           onto f ef r er m os em p ep ts et w ew isw =
-              let on = turns-on explained last ys es zs (h .stand) (h .table) (h .out) (h .kept) e ef er em in (
-                record { stand = w; table = ts; out = os; kept = subst (λ (v : Stand). Kept explained last ys es zs v ts os) (sym ew) (subst (λ (l : List Call). Kept explained last ys es zs (m .stand) l os) (sym (et ∙ ap (committed (h .table)) ep)) (on .kept')); typed = isw },
+              let on = turns-on (lines explained) last ys es zs (h .stand) (h .table) (h .out) (h .kept) e ef er em in (
+                record { stand = w; table = ts; out = os; kept = subst (λ (v : Stand). Kept (lines explained) last ys es zs v ts os) (sym ew) (subst (λ (l : List Call). Kept (lines explained) last ys es zs (m .stand) l os) (sym (et ∙ ap (committed (h .table)) ep)) (on .kept')); typed = isw },
                 subst (λ (v : Stand). leftOf es v < leftOf es (h .stand)) (sym ew) (on .less),
               )
 
@@ -434,7 +435,7 @@ module _ {M : Type 1} (𝓤 : URA M) (H : Heap 𝓤) (A : Atoms 𝓤) (W : Given
           land ! (from ! (stop !)) (init ! 30 refl (LL.lawful S.the-type S′.the-laws 𝓤 H A W .typed w _ isw .0)) $
           move ! (45 ∷ []) $ fsplit ! $ move ! (1 ∷ []) $ fsplit ! $ move ! (1 ∷ []) $ fsplit ! $ move ! (1 ∷ []) $ fsplit ! $ move ! (1 ∷ []) $ fsplit ! $ move ! (50 ∷ []) $ split ! $ move ! (1 ∷ []) $ split ! $ move ! (1 ∷ []) $ split ! $ move ! (2 ∷ 1 ∷ []) $ join ! $
           keep ! (0 ∷ 7 ∷ 8 ∷ 2 ∷ 3 ∷ 1 ∷ 9 ∷ 10 ∷ 11 ∷ 12 ∷ 13 ∷ 14 ∷ 15 ∷ 16 ∷ 17 ∷ 18 ∷ 19 ∷ 20 ∷ 21 ∷ 22 ∷ 23 ∷ 24 ∷ 25 ∷ 26 ∷ 27 ∷ 28 ∷ 29 ∷ 30 ∷ 31 ∷ 32 ∷ 33 ∷ 34 ∷ 35 ∷ 36 ∷ 37 ∷ 38 ∷ 39 ∷ 40 ∷ 41 ∷ 42 ∷ 43 ∷ 44 ∷ 45 ∷ 46 ∷ 47 ∷ 48 ∷ 49 ∷ 50 ∷ 51 ∷ 52 ∷ []) $
-          looped (record { stand = w; table = ys; out = zs; kept = subst (λ (v : Stand). Kept explained last ys es zs v ys zs) (sym ew) (starts explained last ys es zs); typed = isw }))
+          looped (record { stand = w; table = ys; out = zs; kept = subst (λ (v : Stand). Kept (lines explained) last ys es zs v ys zs) (sym ew) (starts (lines explained) last ys es zs); typed = isw }))
 
     walk : ent 𝓤 (onEntry 𝓤 H A f.signature (κ, (κ₁, (κ₂, tt))) (q, (q₁, (q₂, tt))) a vals) (WpFn 𝓤 H C Λ code.function (s ∷ s₁ ∷ vbool last ∷ vbool explained ∷ s₂ ∷ []) Post)
     walk =

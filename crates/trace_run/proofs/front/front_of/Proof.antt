@@ -20,7 +20,7 @@ rest = 0 ∷ 2 ∷ []
 others : (last : Bool) (f : Fault) → OneOf rest (tagOf the-type f) → heededOf last (Record.Refused f) ≡ Front.Faulty f
 others last Fault.Kind k = refl
 others last Fault.Short k = absurd (miss rest 1 tt k)
-others last Fault.Range k = refl
+others last (Fault.Range f) k = refl
 
 read-record-requires : tie.Need-read-record-requires
 read-record-requires c κs = search needs
