@@ -21,6 +21,7 @@ use Rattle.answer.specs.declared.Answer.{Answer}
 use Rattle.message_types.specs.declared.Kind.{Kind}
 use Rattle.sent.specs.declared.Level.{Level}
 use Rattle.sent.specs.declared.Sent.{Sent}
+use Rattle.sent.specs.declared.dispatch.Carrier.{Carrier}
 use Rattle.phases.specs.declared.Phase.{Phase}
 use Rattle.sent.specs.declared.side.Side.{Side}
 use Rattle.answer.specs.Answer.{takenOf}
@@ -57,8 +58,8 @@ SentIn Sent.Absent = Unit {0}
 SentIn (Sent.Present m) = CauseIn (m .cause)
 
 record Says (r : Reply) : Type 0 where
-  calling : SentIn (r .calling)
-  called : SentIn (r .called)
+  calling : SentIn (r .dispatch .calling)
+  called : SentIn (r .dispatch .called)
 
 refused-says : (c : Call) (a : Answer) (n : Note) → Says (refusedOf c a n)
 unfolding refusedOf
@@ -84,10 +85,10 @@ only-in : (b : Bool) (s : Sent) → SentIn s → SentIn (onlyIfOf b s)
 unfolding onlyIfOf
 only-in b s h = by-cond SentIn b (λ _. h) (λ _. tt)
 
-side-says : (side : Side) (c : Call) (a : Answer) (n : Note) (back on : Sent) → SentIn back → SentIn on → Says (replyOf side c a n back on)
+side-says : (side : Side) (c : Call) (a : Answer) (n : Note) (back on : Sent) (x : Carrier) → SentIn back → SentIn on → Says (replyOf side c a n back on x)
 unfolding replyOf
-side-says Side.Calling c a n back on p q = record { calling = p; called = q }
-side-says Side.Called c a n back on p q = record { calling = q; called = p }
+side-says Side.Calling c a n back on x p q = record { calling = p; called = q }
+side-says Side.Called c a n back on x p q = record { calling = q; called = p }
 
 setup-says : (reference : ℕ) (rights : Rights) (q : Requests) (seen : Seen) → Says (proceedsOf reference rights q seen)
 unfolding proceedsOf toCallerOf toCalledOf
@@ -108,7 +109,7 @@ answered-says c kind next f l h = outcome-says c kind next f _ (failedOf f) h
 
 carried-says : (c : Call) (side : Side) (more : Bool) (p : Passage) → Says (carriedOf c side more p)
 unfolding carriedOf
-carried-says c side more p = side-says side _ _ _ _ _ (only-in _ _ (congestion-in Level.NotReady)) (only-in _ _ (informs-in more))
+carried-says c side more p = side-says side _ _ _ _ _ _ (only-in _ _ (congestion-in Level.NotReady)) (only-in _ _ (informs-in more))
 
 element-says : (c : Call) (seen : Seen) (r : Reply) → Says r → Says (withElementOf c seen r)
 unfolding withElementOf
@@ -138,17 +139,17 @@ says c (Event.Setup reference rights q) l = heard-says c _ _ (λ _. setup-says r
 says c (Event.Alerting answers) l = heard-says c _ _ (λ _. answered-says c _ _ _ l (alerting-cause CauseIn tt (omega arith) (omega arith) (c .standings) answers))
 says c (Event.Connect answers) l = heard-says c _ _ (λ _. answered-says c _ _ _ l (connect-cause CauseIn tt (omega arith) (omega arith) _ (c .standings) answers))
 says c (Event.Information side more) l = heard-says c _ _ (λ _. element-says c _ _ (carried-says c side more _))
-says c (Event.Facility side what) l = heard-says c _ _ (λ _. side-says side _ _ _ _ _ (only-in _ _ (saying-in _ _ _ _ tt)) (only-in _ _ (saying-in _ _ _ _ tt)))
-says c (Event.Disconnect side cause answers) l = heard-says c _ _ (λ h. side-says side _ _ _ _ _ tt (saying-in _ _ _ _ (in-bar c _ cause h)))
-says c (Event.ReleaseComplete side) l = heard-says c _ _ (λ _. side-says side _ _ _ _ _ tt (saying-in _ _ _ _ tt))
+says c (Event.Facility side what) l = heard-says c _ _ (λ _. side-says side _ _ _ _ _ _ (only-in _ _ (saying-in _ _ _ _ tt)) (only-in _ _ (saying-in _ _ _ _ tt)))
+says c (Event.Disconnect side cause answers) l = heard-says c _ _ (λ h. side-says side _ _ _ _ _ _ tt (saying-in _ _ _ _ (in-bar c _ cause h)))
+says c (Event.ReleaseComplete side) l = heard-says c _ _ (λ _. side-says side _ _ _ _ _ _ tt (saying-in _ _ _ _ tt))
 says c Event.Tick l = heard-says c _ _ (λ _. tick-says c)
 says c Event.CallProceeding l = refused-says c _ _
 says c Event.CongestionControl l = refused-says c _ _
 
 -- any event at any table
 pub record Tells (o : Outcome) : Type 0 where
-  pub calling : SentIn (o .calling)
-  pub called : SentIn (o .called)
+  pub calling : SentIn (o .dispatch .calling)
+  pub called : SentIn (o .dispatch .called)
 
 chosen-tells : (calls : List Call) (x : Choice) (e : Event) (l : List ℕ) → Tells (outcomeAt calls x e l)
 unfolding settledOf heardOutcomeOf tableRefusalOf

@@ -2,8 +2,12 @@ pub mod Fronts
 pub mod Making
 pub mod Causes
 pub mod Lines
+pub mod Names
 pub mod Instances
 pub mod Ranged
 pub mod Records
 pub mod RoundTrip
 pub mod WholeRun
+pub mod Heeded
+pub mod Means
+pub mod WrittenBack

@@ -30,7 +30,8 @@ use Rattle.trace_lines.specs.Items.{causeItem, levelItem, saidItem, moreItem, e
 use Rattle.trace_lines.specs.Line.{typeColumn, saidColumns, numberColumns, typeColumns, lineOf}
 use Rattle.trace_lines.specs.Notices.{faultLine}
 use Rattle.trace_run.specs.Entry.{columnsOf}
-use Rattle.trace_run.specs.Run.{turnedAt, lineAt}
+use Rattle.trace_run.specs.Course.{turnedAt, Answered, answeredAt, lines}
+use Rattle.trace_run.specs.Run.{lineAt}
 use Rattle.trace_promises.specs.WholeRun.{Octets}
 use Rattle.trace_promises.proofs.Fronts.{Whole}
 use Rattle.trace_promises.proofs.Causes.{CauseIn, SentIn, tells}
@@ -142,8 +143,8 @@ type-short (Sent.Present m) = omega arith
 pub record ColumnsIn (o : Columns) : Type 0 where
   pub reference : o .reference ≤ 65535
   pub answer : o .answer ≤ 25
-  pub calling : SentIn (o .calling)
-  pub called : SentIn (o .called)
+  pub calling : SentIn (o .dispatch .calling)
+  pub called : SentIn (o .dispatch .called)
 
 numbers-short : (o : Columns) → ColumnsIn o → length (numberColumns o) ≤ 12
 unfolding numberColumns
@@ -157,14 +158,14 @@ numbers-short o h =
 types-short : (o : Columns) → length (typeColumns o) ≤ 6
 unfolding typeColumns
 types-short o =
-    let a = type-short (o .calling) in
-    let b = type-short (o .called) in
+    let a = type-short (o .dispatch .calling) in
+    let b = type-short (o .dispatch .called) in
     simp length-append (omega arith)
 
 said-short : (explained : Bool) (o : Columns) → ColumnsIn o → length (saidColumns explained o) ≤ 124
 said-short true o h =
-    let a = message-short (o .calling) (h .calling) in
-    let b = message-short (o .called) (h .called) in
+    let a = message-short (o .dispatch .calling) (h .calling) in
+    let b = message-short (o .dispatch .called) (h .called) in
     simp length-append (omega arith)
 said-short false o h = omega arith
 
@@ -192,14 +193,14 @@ columns-in calls t e o w =
       called = s .called;
     }
 
-pub record-short : (explained : Bool) (calls : List Call) (t : List ℕ) (e : Entry) → Octets t → Whole t e → length (lineAt explained calls e t) ≤ 143
-unfolding lineAt
+pub record-short : (explained : Bool) (calls : List Call) (t : List ℕ) (e : Entry) → Octets t → Whole t e → length (lineAt (lines explained) calls e t) ≤ 143
+unfolding lineAt answeredAt
 record-short explained calls t e o w = line-short explained _ (columns-in calls t e o w)
 
 -- it has octets
-pub line-some : (explained : Bool) (calls : List Call) (t : List ℕ) (e : Entry) → 1 ≤ length (lineAt explained calls e t)
-unfolding lineAt lineOf
-line-some explained calls t e = simp length-append (omega arith)
+pub line-some : (explained : Bool) (a : Answered) → 1 ≤ length (lines explained .line a)
+unfolding lineOf
+line-some explained a = simp length-append (omega arith)
 
 pub fault-short : (f : Fault) → length (faultLine f) ≤ 143
 fault-short f = let n = at-most 1 (traceFaultNumber f) (omega (arith, fault-small f)) in simp length-append (omega arith)
@@ -207,4 +208,4 @@ fault-short f = let n = at-most 1 (traceFaultNumber f) (omega (arith, fault-smal
     fault-small : (f : Fault) → traceFaultNumber f ≤ 33
     fault-small Fault.Kind = omega arith
     fault-small Fault.Short = omega arith
-    fault-small Fault.Range = omega arith
+    fault-small (Fault.Range f) = omega arith

@@ -1,21 +1,74 @@
--- The reader's test of a record and what the paper says is in range are one.
+-- The reader's test of a record and what the paper says is in range are one, field by field.
 use Prim.Native.Nat.{ℕ, zero, suc, _+_, _-_, _<_, _≤_}
 use mathlib.Core.List.{List, [], _∷_}
-use mathlib.Core.Bool.{Bool, true, false, cond}
-use mathlib.Core.Logic.{inl, inr, ⊎-elim}
-use mathlib.Core.Path.{_≡_, refl, sym, ap, _∙_}
+use mathlib.Core.Bool.{Bool, true, false, cond, _&&_, true≢false}
+use mathlib.Core.Logic.{_⊎_, inl, inr, ⊎-elim}
+use mathlib.Core.Path.{_≡_, refl, sym, _∙_}
+use native.Mathlib.Nat.{add-zero}
 use native.Mathlib.Omega.{arith}
-use borrow.Author.Tests.{ltb-false, leb-true, le-leb, eqb-true, le-ltb, eq-eqb, ne-eqb}
-use lib.ListN.{length, getD, take, drop, length-take, length-drop}
+use borrow.Author.Tests.{ltb-true, ltb-false, eqb-true, le-leb, le-ltb, eq-eqb, ne-eqb}
+use lib.ListN.{length, getD, take, drop, length-drop}
 use lib.Seq.{getD-take, getD-drop, length-take-le}
-use lib.Dec.{ltb, leb, eqb}
+use lib.Dec.{ltb, eqb}
+use Rattle.rights.specs.declared.Service.{Service}
+use Rattle.trace.specs.declared.Field.{Field}
 use Rattle.trace.specs.declared.kind.RecordKind.{RecordKind}
-use Rattle.trace.specs.Kind.{sizeOf}
-use Rattle.trace.specs.Field.{blankOf, fieldFitsOf}
-use Rattle.trace.specs.Reading.{fieldAtOf, closesOf, rangedOf}
-use Rattle.trace_promises.specs.Records.{Zeros, Field, Three, FieldsInRange}
+use Rattle.trace.specs.declared.ranges.Tested.{Tested}
+use Rattle.trace.specs.Kind.{layoutOf, sizeOf}
+use Rattle.trace.specs.ElementField.{blankOf, formFitsOf, zerosFitOf}
+use Rattle.trace.specs.Ranges.{firstOf, upToOf, threeOf, elementOutOf, firstOutOf}
+use Rattle.trace_promises.specs.Records.{Zeros, HoldsElement, FieldsInRange}
+use Rattle.trace_promises.specs.Names.{Fields, FirstOut, threeFields, elementFields, fieldsOf}
 use Rattle.logic.proofs.Tests.{both, if-so, if-not}
 
+-- ---- what a test says of the fields
+abbrev AllIn : Fields → Type 0
+AllIn Fields.none = Unit {0}
+AllIn (Fields.field f P rest) = P × AllIn rest
+
+abbrev Says : Fields → Tested → Type 0
+Says fs Tested.InRange = AllIn fs
+Says fs (Tested.Out f) = FirstOut fs f
+
+not-both : (fs : Fields) (f : Field) → AllIn fs → FirstOut fs f → ⊥
+not-both Fields.none f a o = o
+not-both (Fields.field g P rest) f a o = ⊎-elim (λ u. u .1 (a .0)) (λ u. not-both rest f (a .1) (u .1)) o
+
+-- one field more, which is in range
+passes : (f : Field) (P : Type 0) (rest : Fields) (x : Tested) → P → Says rest x → Says (Fields.field f P rest) x
+passes f P rest Tested.InRange p s = (p, s)
+passes f P rest (Tested.Out g) p s = inr (p, s)
+
+first-assoc : (a b c : Tested) → firstOf (firstOf a b) c ≡ firstOf a (firstOf b c)
+first-assoc Tested.InRange b c = refl
+first-assoc (Tested.Out f) b c = refl
+
+module _ (f : Field) (most : ℕ) (t : List ℕ) (rest : Fields) (x : Tested) (s : Says rest x) where
+  held-to : (v : ℕ) (b : Bool) → ltb most v ≡ b → Says (Fields.field f (v ≤ most) rest) (firstOf (cond b (Tested.Out f) Tested.InRange) x)
+  held-to v true e = inl (refl, λ h. let l = ltb-true most v e in omega arith)
+  held-to v false e = passes f (v ≤ most) rest x (ltb-false most v e) s
+
+  up-to-says : (p i : ℕ) → (p ≡ 0 → ⊥) → Says (Fields.field f (getD t (p + i) 0 ≤ most) rest) (firstOf (upToOf f most p i t) x)
+  unfolding upToOf
+  up-to-says p i n = rw (ne-eqb p 0 n) (held-to (getD t (p + i) 0) _ refl)
+
+  at-says : (p : ℕ) → (p ≡ 0 → ⊥) → Says (Fields.field f (getD t p 0 ≤ most) rest) (firstOf (upToOf f most p 0 t) x)
+  unfolding upToOf
+  at-says p n = rw (ne-eqb p 0 n, add-zero p) (held-to (getD t p 0) _ refl)
+
+three-says : (f : Service → Field) (t : List ℕ) (rest : Fields) (x : Tested) → Says rest x → (p : ℕ) → (p ≡ 0 → ⊥) → Says (threeFields f t p rest) (firstOf (threeOf f p t) x)
+unfolding threeOf
+three-says f t rest x s p n =
+    let three = Fields.field (f Service.Three) (getD t (p + 2) 0 ≤ 2) rest in
+    let two = Fields.field (f Service.Two) (getD t (p + 1) 0 ≤ 2) three in
+    let c = firstOf (upToOf (f Service.Three) 2 p 2 t) x in
+    let b = firstOf (upToOf (f Service.Two) 2 p 1 t) c in
+    rw (first-assoc, first-assoc)
+    (at-says (f Service.One) 2 t two b
+    (up-to-says (f Service.Two) 2 t three c (up-to-says (f Service.Three) 2 t rest x s p 2 n) p 1 n)
+    p n)
+
+-- ---- the element field
 -- zeros, one by one
 blank-each : (l : List ℕ) → blankOf l ≡ true → (i : ℕ) → getD l i 0 ≡ 0
 unfolding blankOf
@@ -28,138 +81,121 @@ unfolding blankOf
 each-blank [] f = refl
 each-blank (x ∷ xs) f = simp (eq-eqb x 0 (f 0 (omega arith)), each-blank xs (λ i h. f (suc i) (omega arith)))
 
--- a part of n octets from place p on
-at-part : (t : List ℕ) (p n i : ℕ) → i < n → getD (take n (drop p t)) i 0 ≡ getD t (p + i) 0
-at-part t p n i h = getD-take n (drop p t) i 0 h ∙ getD-drop p t i 0
+module _ (t : List ℕ) (p : ℕ) (there : p ≡ 0 → ⊥) (within : p + 132 ≤ length t) where
+  abbrev n : ℕ
+  n = getD t p 0
 
-module _ (t : List ℕ) (p : ℕ) (there : p + 132 ≤ length t) where
   abbrev field : List ℕ
   field = take 132 (drop p t)
 
-  n-is : getD field 0 0 ≡ getD t p 0
-  n-is = at-part t p 132 0 (omega arith) ∙ ap (λ (k : ℕ). getD t k 0) (let e : p + 0 ≡ p = omega arith in e)
+  field-long : length field ≡ 132
+  field-long = length-take-le 132 (drop p t) (rw (length-drop p t) (omega arith))
 
-  length-is : length field ≡ 132
-  length-is = length-take-le 132 (drop p t) (rw (length-drop p t) (omega arith))
+  after : (j : ℕ) → n + 1 + j < 132 → getD (drop (n + 1) field) j 0 ≡ getD t (p + (n + 1 + j)) 0
+  after j h = getD-drop (n + 1) field j 0 ∙ getD-take 132 (drop p t) (n + 1 + j) 0 h ∙ getD-drop p t (n + 1 + j) 0
 
-  in-field : (k m j : ℕ) → k + m ≡ 132 → j < m → getD (take m (drop k field)) j 0 ≡ getD t (p + (k + j)) 0
-  in-field k m j e h = at-part field k m j h ∙ at-part t p 132 (k + j) (omega arith)
-
-  zeros-from : (k m : ℕ) → k + m ≡ 132 → blankOf (take m (drop k field)) ≡ true → Zeros t (p + k) (p + 132)
-  zeros-from k m e b = record {
+  zeros-in : blankOf (drop (n + 1) field) ≡ true → Zeros t (p + 1 + n) (p + 132)
+  zeros-in b = record {
     zero = λ i h l.
-        let at : p + (k + (i - (p + k))) ≡ i = omega arith in
-        rw at at (sym (in-field k m (i - (p + k)) e (omega arith)) ∙ blank-each (take m (drop k field)) b (i - (p + k)));
+        let at : p + (n + 1 + (i - (p + 1 + n))) ≡ i = omega arith in
+        rw at at (sym (after (i - (p + 1 + n)) (omega arith)) ∙ blank-each (drop (n + 1) field) b (i - (p + 1 + n)));
   }
 
-  short-enough : (k m : ℕ) → length (take m (drop k field)) ≤ m
-  short-enough k m = rw (length-take m (drop k field)) (omega arith)
+  zeros-to : Zeros t (p + 1 + n) (p + 132) → blankOf (drop (n + 1) field) ≡ true
+  zeros-to z =
+      each-blank (drop (n + 1) field)
+      (λ j h.
+      let l = rw (length-drop (n + 1) field, field-long) at h in
+      after j (omega arith) ∙ z .zero (p + (n + 1 + j)) (omega arith) (omega arith))
 
-  zeros-to : (k m : ℕ) → k + m ≡ 132 → Zeros t (p + k) (p + 132) → blankOf (take m (drop k field)) ≡ true
-  zeros-to k m e z =
-      each-blank (take m (drop k field))
-      (λ j h. let l = short-enough k m in in-field k m j e (omega arith) ∙ z .zero (p + (k + j)) (omega arith) (omega arith))
+  zeros-so : (b : Bool) → blankOf (drop (n + 1) field) ≡ b → Says (Fields.field Field.Zeros (Zeros t (p + 1 + n) (p + 132)) Fields.none) (cond b Tested.InRange (Tested.Out Field.Zeros))
+  zeros-so true e = (zeros-in e, tt)
+  zeros-so false e = inl (refl, λ z. true≢false (sym (zeros-to z) ∙ e))
 
-  second-is : (k : ℕ) → k < 132 → getD field k 0 ≡ getD t (p + k) 0
-  second-is k h = at-part t p 132 k h
+  abbrev form : Bool
+  form = cond (ltb n 2) (eqb n 0) (cond (ltb 131 n) false (eqb (getD t (p + 1) 0) 126 && eqb (getD t (p + 2) 0) (n - 2)))
 
-  held : (n : ℕ) → getD field 0 0 ≡ n → (b : Bool) → eqb n 0 ≡ b
-      → cond b (blankOf (take 131 (drop 1 field))) (cond (ltb n 2) false (cond (ltb 131 n) false (cond (eqb (getD field 1 0) 126) (cond (eqb (getD field 2 0) (n - 2)) (blankOf (take (131 - n) (drop (n + 1) field))) false) false))) ≡ true
-      → Field t p
-  held n e true z h =
-      let o : getD t p 0 ≡ 0 = sym n-is ∙ e ∙ eqb-true n 0 z in
-      let q : p + 1 + getD t p 0 ≡ p + 1 = omega arith in
-      record { element = inl o; after = rw q (zeros-from 1 131 refl h) }
-  held n e false z h =
-      let a = if-not (ltb n 2) _ h in
-      let b = if-not (ltb 131 n) _ (a .1) in
-      let c = if-so (eqb (getD field 1 0) 126) _ (b .1) in
-      let d = if-so (eqb (getD field 2 0) (n - 2)) _ (c .1) in
-      let o : getD t p 0 ≡ n = sym n-is ∙ e in
-      let least = ltb-false n 2 (a .0) in
-      let most = ltb-false 131 n (b .0) in
-      let q : p + 1 + getD t p 0 ≡ p + (n + 1) = omega arith in
-      record {
-        element = inr (record {
-          least = rw o least;
-          most = rw o most;
-          first = sym (second-is 1 (omega arith)) ∙ eqb-true _ _ (c .0);
-          second = rw o (sym (second-is 2 (omega arith)) ∙ eqb-true _ _ (d .0));
-        });
-        after = rw q (zeros-from (n + 1) (131 - n) (omega arith) (d .1));
-      }
+  form-in : (b : Bool) → ltb n 2 ≡ b → cond b (eqb n 0) (cond (ltb 131 n) false (eqb (getD t (p + 1) 0) 126 && eqb (getD t (p + 2) 0) (n - 2))) ≡ true → (n ≡ 0) ⊎ HoldsElement t p
+  form-in true e h = inl (eqb-true n 0 h)
+  form-in false e h =
+      let a = if-not (ltb 131 n) _ h in
+      let c = both (eqb (getD t (p + 1) 0) 126) (eqb (getD t (p + 2) 0) (n - 2)) (a .1) in
+      inr (record { least = ltb-false n 2 e; most = ltb-false 131 n (a .0); first = eqb-true _ _ (c .0); second = eqb-true _ _ (c .1) })
 
-  pub field-in : fieldAtOf p t ≡ true → Field t p
-  unfolding fieldAtOf fieldFitsOf
-  field-in h = held (getD field 0 0) refl _ refl (rw (eq-eqb (length field) 132 length-is) at h)
+  absent : n ≡ 0 → form ≡ true
+  absent z = rw z refl
 
-  absent-fits : getD t p 0 ≡ 0 → Zeros t (p + 1) (p + 132) → fieldAtOf p t ≡ true
-  unfolding fieldAtOf fieldFitsOf
-  absent-fits o z =
-      simp (eq-eqb (length field) 132 length-is, eq-eqb (getD field 0 0) 0 (n-is ∙ o)) (zeros-to 1 131 refl z)
+  held : HoldsElement t p → form ≡ true
+  held w = simp (le-ltb n 2 (w .least), le-ltb 131 n (w .most), eq-eqb _ _ (w .first), eq-eqb _ _ (w .second))
 
-  held-fits : (n : ℕ) → getD field 0 0 ≡ n → 2 ≤ n → n ≤ 131 → getD field 1 0 ≡ 126 → getD field 2 0 ≡ n - 2 → Zeros t (p + (n + 1)) (p + 132) → fieldAtOf p t ≡ true
-  unfolding fieldAtOf fieldFitsOf
-  held-fits n e a b c d z =
-      simp (
-        eq-eqb (length field) 132 length-is,
-        e,
-        ne-eqb n 0 (λ k. omega arith),
-        le-ltb n 2 a,
-        le-ltb 131 n b,
-        eq-eqb (getD field 1 0) 126 c,
-        eq-eqb (getD field 2 0) (n - 2) d,
-      ) (zeros-to (n + 1) (131 - n) (omega arith) z)
+  form-so : (b : Bool) → form ≡ b → (x : Tested) → Says (Fields.field Field.Zeros (Zeros t (p + 1 + n) (p + 132)) Fields.none) x → Says (elementFields t p) (cond b x (Tested.Out Field.Element))
+  form-so true e x s = passes Field.Element ((n ≡ 0) ⊎ HoldsElement t p) _ x (form-in _ refl e) s
+  form-so false e x s = inl (refl, λ w. true≢false (sym (⊎-elim absent held w) ∙ e))
 
-  pub field-fits : Field t p → fieldAtOf p t ≡ true
-  field-fits f =
-      ⊎-elim
-      (λ o. let q : p + 1 + getD t p 0 ≡ p + 1 = omega arith in absent-fits o (rw q at (f .after)))
-      (λ w.
-      let n = getD t p 0 in
-      let q : p + 1 + n ≡ p + (n + 1) = omega arith in
-      held-fits n n-is (w .least) (w .most) (second-is 1 (omega arith) ∙ w .first) (second-is 2 (omega arith) ∙ w .second) (rw q at (f .after)))
-      (f .element)
+  element-says : Says (elementFields t p) (elementOutOf p t)
+  unfolding elementOutOf formFitsOf zerosFitOf
+  element-says =
+      rw (ne-eqb p 0 there, le-leb (p + 132) (length t) within)
+      (form-so _ refl _ (zeros-so _ refl))
 
--- three octets, and the element field after them
-closes-in : (t : List ℕ) (p : ℕ) → p + 135 ≤ length t → closesOf p t ≡ true → Three t p × Field t (p + 3)
-unfolding closesOf
-closes-in t p s h =
-    let a = both _ (fieldAtOf (p + 3) t) h in
-    let b = both _ (leb (getD t (p + 2) 0) 2) (a .0) in
-    let c = both (leb (getD t p 0) 2) (leb (getD t (p + 1) 0) 2) (b .0) in
-    (record { one = leb-true _ _ (c .0); two = leb-true _ _ (c .1); three = leb-true _ _ (b .1) }, field-in t (p + 3) (omega arith) (a .1))
+-- ---- every kind
+module _ (t : List ℕ) where
+  says : (k : RecordKind) → sizeOf k ≤ length t → Says (fieldsOf k t) (firstOutOf (layoutOf k) t)
+  unfolding firstOutOf upToOf threeOf elementOutOf formFitsOf zerosFitOf
+  says RecordKind.Setup s =
+      up-to-says Field.Late 1 t _ _
+      (up-to-says Field.Leave 1 t _ _
+      (three-says Field.Request t _ _ (element-says t 12 (λ z. omega arith) (omega arith)) 9 (λ z. omega arith))
+      3 2 (λ z. omega arith))
+      3 1 (λ z. omega arith)
+  says RecordKind.Alerting s = three-says Field.Answer t _ _ (element-says t 6 (λ z. omega arith) (omega arith)) 3 (λ z. omega arith)
+  says RecordKind.Connect s = three-says Field.Answer t _ _ (element-says t 6 (λ z. omega arith) (omega arith)) 3 (λ z. omega arith)
+  says RecordKind.Information s =
+      up-to-says Field.Side 1 t _ _ (element-says t 4 (λ z. omega arith) (omega arith)) 3 0 (λ z. omega arith)
+  says RecordKind.Facility s =
+      up-to-says Field.Side 1 t _ _ (up-to-says Field.What 3 t Fields.none Tested.InRange tt 4 0 (λ z. omega arith)) 3 0 (λ z. omega arith)
+  says RecordKind.Disconnect s =
+      up-to-says Field.Side 1 t _ _
+      (up-to-says Field.Cause 127 t _ _
+      (three-says Field.Answer t _ _ (element-says t 8 (λ z. omega arith) (omega arith)) 5 (λ z. omega arith))
+      4 0 (λ z. omega arith))
+      3 0 (λ z. omega arith)
+  says RecordKind.ReleaseComplete s = up-to-says Field.Side 1 t Fields.none Tested.InRange tt 3 0 (λ z. omega arith)
+  says RecordKind.Tick s = tt
 
-closes : (t : List ℕ) (p : ℕ) → p + 135 ≤ length t → Three t p → Field t (p + 3) → closesOf p t ≡ true
-unfolding closesOf
-closes t p s h f = simp (le-leb _ _ (h .one), le-leb _ _ (h .two), le-leb _ _ (h .three), field-fits t (p + 3) (omega arith) f)
+  all-in : (k : RecordKind) → AllIn (fieldsOf k t) → FieldsInRange k t
+  all-in RecordKind.Setup a = (a .0, a .1 .0, record { one = a .1 .1 .0; two = a .1 .1 .1 .0; three = a .1 .1 .1 .1 .0 }, record { element = a .1 .1 .1 .1 .1 .0; after = a .1 .1 .1 .1 .1 .1 .0 })
+  all-in RecordKind.Alerting a = (record { one = a .0; two = a .1 .0; three = a .1 .1 .0 }, record { element = a .1 .1 .1 .0; after = a .1 .1 .1 .1 .0 })
+  all-in RecordKind.Connect a = (record { one = a .0; two = a .1 .0; three = a .1 .1 .0 }, record { element = a .1 .1 .1 .0; after = a .1 .1 .1 .1 .0 })
+  all-in RecordKind.Information a = (a .0, record { element = a .1 .0; after = a .1 .1 .0 })
+  all-in RecordKind.Facility a = (a .0, a .1 .0)
+  all-in RecordKind.Disconnect a = (a .0, a .1 .0, record { one = a .1 .1 .0; two = a .1 .1 .1 .0; three = a .1 .1 .1 .1 .0 }, record { element = a .1 .1 .1 .1 .1 .0; after = a .1 .1 .1 .1 .1 .1 .0 })
+  all-in RecordKind.ReleaseComplete a = a .0
+  all-in RecordKind.Tick a = tt
 
-pub in-range : (k : RecordKind) (t : List ℕ) → sizeOf k ≤ length t → rangedOf k t ≡ true → FieldsInRange k t
-in-range RecordKind.Setup t s h =
-    let a = both _ (closesOf 9 t) h in
-    let b = both (leb (getD t 4 0) 1) (leb (getD t 5 0) 1) (a .0) in
-    let c = closes-in t 9 (omega arith) (a .1) in
-    (leb-true _ _ (b .0), leb-true _ _ (b .1), c .0, c .1)
-in-range RecordKind.Alerting t s h = closes-in t 3 (omega arith) h
-in-range RecordKind.Connect t s h = closes-in t 3 (omega arith) h
-in-range RecordKind.Information t s h =
-    let a = both (leb (getD t 3 0) 1) (fieldAtOf 4 t) h in (leb-true _ _ (a .0), field-in t 4 (omega arith) (a .1))
-in-range RecordKind.Facility t s h =
-    let a = both (leb (getD t 3 0) 1) (leb (getD t 4 0) 3) h in (leb-true _ _ (a .0), leb-true _ _ (a .1))
-in-range RecordKind.Disconnect t s h =
-    let a = both _ (closesOf 5 t) h in
-    let b = both (leb (getD t 3 0) 1) (leb (getD t 4 0) 127) (a .0) in
-    let c = closes-in t 5 (omega arith) (a .1) in
-    (leb-true _ _ (b .0), leb-true _ _ (b .1), c .0, c .1)
-in-range RecordKind.ReleaseComplete t s h = leb-true _ _ h
-in-range RecordKind.Tick t s h = tt
+  in-all : (k : RecordKind) → FieldsInRange k t → AllIn (fieldsOf k t)
+  in-all RecordKind.Setup i = (i .0, (i .1, (i .2 .one, (i .2 .two, (i .2 .three, (i .3 .element, (i .3 .after, tt)))))))
+  in-all RecordKind.Alerting i = (i .0 .one, (i .0 .two, (i .0 .three, (i .1 .element, (i .1 .after, tt)))))
+  in-all RecordKind.Connect i = (i .0 .one, (i .0 .two, (i .0 .three, (i .1 .element, (i .1 .after, tt)))))
+  in-all RecordKind.Information i = (i .0, (i .1 .element, (i .1 .after, tt)))
+  in-all RecordKind.Facility i = (i .0, (i .1, tt))
+  in-all RecordKind.Disconnect i = (i .0, (i .1, (i .2 .one, (i .2 .two, (i .2 .three, (i .3 .element, (i .3 .after, tt)))))))
+  in-all RecordKind.ReleaseComplete i = (i, tt)
+  in-all RecordKind.Tick i = tt
 
-pub ranged : (k : RecordKind) (t : List ℕ) → sizeOf k ≤ length t → FieldsInRange k t → rangedOf k t ≡ true
-ranged RecordKind.Setup t s h = simp (le-leb _ _ (h .0), le-leb _ _ (h .1), closes t 9 (omega arith) (h .2) (h .3))
-ranged RecordKind.Alerting t s h = closes t 3 (omega arith) (h .0) (h .1)
-ranged RecordKind.Connect t s h = closes t 3 (omega arith) (h .0) (h .1)
-ranged RecordKind.Information t s h = simp (le-leb _ _ (h .0), field-fits t 4 (omega arith) (h .1))
-ranged RecordKind.Facility t s h = simp (le-leb _ _ (h .0), le-leb _ _ (h .1))
-ranged RecordKind.Disconnect t s h = simp (le-leb _ _ (h .0), le-leb _ _ (h .1), closes t 5 (omega arith) (h .2) (h .3))
-ranged RecordKind.ReleaseComplete t s h = le-leb _ _ h
-ranged RecordKind.Tick t s h = refl
+  module _ (k : RecordKind) (s : sizeOf k ≤ length t) where
+    pub in-range : firstOutOf (layoutOf k) t ≡ Tested.InRange → FieldsInRange k t
+    in-range e = all-in k (rw e at (says k s))
+
+    pub first-out : (f : Field) → firstOutOf (layoutOf k) t ≡ Tested.Out f → FirstOut (fieldsOf k t) f
+    first-out f e = rw e at (says k s)
+
+    pub not-in-range : (f : Field) → firstOutOf (layoutOf k) t ≡ Tested.Out f → FieldsInRange k t → ⊥
+    not-in-range f e i = not-both (fieldsOf k t) f (in-all k i) (first-out f e)
+
+    by-test : (x : Tested) → firstOutOf (layoutOf k) t ≡ x → FieldsInRange k t → x ≡ Tested.InRange
+    by-test Tested.InRange e i = refl
+    by-test (Tested.Out f) e i = absurd (not-in-range f e i)
+
+    pub ranged : FieldsInRange k t → firstOutOf (layoutOf k) t ≡ Tested.InRange
+    ranged i = by-test _ refl i

@@ -9,7 +9,7 @@ use Rattle.logic.specs.First.{Rows, end, row, Exactly}
 use Rattle.trace.specs.declared.kind.RecordKind.{RecordKind}
 use Rattle.trace.specs.declared.kind.NamedKind.{NamedKind}
 use Rattle.trace.specs.declared.Record.{Record}
-use Rattle.trace.specs.Kind.{recordKindOf, sizeOf}
+use Rattle.trace.specs.Kind.{recordKindOf}
 use Rattle.trace.specs.Reading.{traceFaultNumber, recordOf}
 
 -- an event, or the end of the trace, has number 0
@@ -51,9 +51,21 @@ FieldsInRange RecordKind.Disconnect t = (getD t 3 0 ≤ 1) × (getD t 4 0 ≤ 12
 FieldsInRange RecordKind.ReleaseComplete t = getD t 3 0 ≤ 1
 FieldsInRange RecordKind.Tick t = Unit {0}
 
+-- "One octet of kind, then a body of fixed length: 1 SETUP 143, 2 ALERTING 137, 3 CONNECT 137, 4 USER INFORMATION 135,
+-- 5 FACILITY 4, 6 DISCONNECT 139, 7 RELEASE COMPLETE 3, 8 tick 2."
+abbrev pub bodyOf : RecordKind → ℕ
+bodyOf RecordKind.Setup = 143
+bodyOf RecordKind.Alerting = 137
+bodyOf RecordKind.Connect = 137
+bodyOf RecordKind.Information = 135
+bodyOf RecordKind.Facility = 4
+bodyOf RecordKind.Disconnect = 139
+bodyOf RecordKind.ReleaseComplete = 3
+bodyOf RecordKind.Tick = 2
+
 abbrev pub Short : NamedKind → List ℕ → Type 0
 Short NamedKind.Unknown t = ⊥
-Short (NamedKind.Known k) t = length t < sizeOf k
+Short (NamedKind.Known k) t = length t < 1 + bodyOf k
 
 abbrev pub FieldsOutOfRange : NamedKind → List ℕ → Type 0
 FieldsOutOfRange NamedKind.Unknown t = ⊥
