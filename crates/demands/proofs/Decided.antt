@@ -6,12 +6,14 @@ use mathlib.Core.Path.{_≡_, refl, sym, _∙_, ap}
 use native.Mathlib.Omega.{arith}
 use lib.Dec.{eqb}
 use Rattle.logic.specs.First.{Rows, Exactly}
+use Rattle.rights.specs.declared.Service.{Service}
 use Rattle.user_element.specs.declared.Note.{Note}
 use Rattle.user_element.specs.Element.{noteNumberOf}
 use Rattle.answer.specs.declared.Answer.{Answer}
 use Rattle.answer.specs.Answer.{numberOf}
 use Rattle.sent.specs.declared.Message.{Message}
 use Rattle.sent.specs.declared.Sent.{Sent}
+use Rattle.sent.specs.declared.dispatch.Carrier.{Carrier}
 use Rattle.sent.specs.declared.side.Side.{Side}
 use Rattle.call.specs.declared.Call.{Call}
 use Rattle.call.specs.declared.reply.Reply.{Reply}
@@ -21,6 +23,7 @@ use Rattle.call_promises.specs.Numbers.{Core, answerRows, AnswersExactly}
 use Rattle.call_promises.specs.Notes.{noteRows}
 use Rattle.call_promises.specs.Refusals.{sentTo}
 use Rattle.call_promises.specs.Sends.{IsWhatIsSent, SendsExactly}
+use Rattle.call_promises.specs.Carriers.{IsTheCarrier, CarriersExactly}
 use Rattle.call_promises.specs.Becomes.{IsTheRecord, BecomesExactly}
 use Rattle.demands.specs.Demands.{Demands, Decided}
 use Rattle.demands.proofs.Meets.{meets}
@@ -81,7 +84,16 @@ same-sent P (Sent.Present m) t p q = sym (q m .1 (p m .0 refl))
 same-call : (P : Call → Type 0) (c d : Call) → IsTheRecord P c → IsTheRecord P d → c ≡ d
 same-call P c d p q = p d .1 (q d .0 refl)
 
--- what three of the demands fix of a reply
+-- and what is carried alike has one carrier
+nobody : {k : Service} → Carrier.Nobody ≡ Carrier.By k → ⊥
+nobody {k} e = let z : _≡_ {A = ℕ} 0 1 = cc in omega arith
+
+same-bearer : (P : Service → Type 0) (x y : Carrier) → IsTheCarrier P x → IsTheCarrier P y → x ≡ y
+same-bearer P Carrier.Nobody Carrier.Nobody p q = refl
+same-bearer P Carrier.Nobody (Carrier.By k) p q = absurd (nobody (p k .1 (q k .0 refl)))
+same-bearer P (Carrier.By k) y p q = sym (q k .1 (p k .0 refl))
+
+-- what four of the demands fix of a reply
 pub same-record : (f : Core) → BecomesExactly f → (c : Call) (e : Event) (l : List ℕ) → f c e l .call ≡ stepOf c e l .call
 same-record f d c e l = same-call _ _ _ (d c e l) (meets .becomes c e l)
 
@@ -91,6 +103,9 @@ same-numbers f d c e l = same-number (answerRows c e l) _ _ (d c e l) (meets .an
 pub same-messages : (f : Core) → SendsExactly f → (c : Call) (e : Event) (l : List ℕ) (side : Side) → sentTo (f c e l) side ≡ sentTo (stepOf c e l) side
 same-messages f d c e l side = same-sent _ _ _ (d c e l side) (meets .sends c e l side)
 
+pub same-carrier : (f : Core) → CarriersExactly f → (c : Call) (e : Event) (l : List ℕ) → f c e l .dispatch .carrier ≡ stepOf c e l .dispatch .carrier
+same-carrier f d c e l = same-bearer _ _ _ (d c e l) (meets .carriers c e l)
+
 pub decided : Decided
 decided f d c e l =
     let call = same-record f (d .becomes) c e l in
@@ -98,4 +113,11 @@ decided f d c e l =
     let note = same-note _ _ (same-number (noteRows c e l) _ _ (d .notes c e l) (meets .notes c e l)) in
     let calling = same-messages f (d .sends) c e l Side.Calling in
     let called = same-messages f (d .sends) c e l Side.Called in
-    λ i. record { call = call i; answer = answer i; note = note i; calling = calling i; called = called i }
+    let carrier = same-carrier f (d .carriers) c e l in
+    λ i.
+    record {
+      call = call i;
+      answer = answer i;
+      note = note i;
+      dispatch = record { calling = calling i; called = called i; carrier = carrier i };
+    }

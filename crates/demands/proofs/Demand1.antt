@@ -83,8 +83,8 @@ said f (tells p) = tells (f _ p)
 
 -- a message at the table is the call's own
 own-sent : {s : List Call} {place : ℕ} {o : Outcome} {r : Reply} (side : Side) → Gives s place o r → outTo o side ≡ sentTo r side
-own-sent Side.Calling g = g .calling
-own-sent Side.Called g = g .called
+own-sent Side.Calling g = ap (λ d. d .calling) (g .dispatch)
+own-sent Side.Called g = ap (λ d. d .called) (g .dispatch)
 
 silent-to : {o : Outcome} (side : Side) → Silent o → outTo o side ≡ Sent.Absent
 silent-to Side.Calling s = s .calling

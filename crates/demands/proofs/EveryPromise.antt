@@ -31,7 +31,13 @@ use Rattle.capture.proofs.Bounds.{bounded as capture-bounded}
 use Rattle.capture.proofs.Promises.{whole-run as capture-whole-run}
 use Rattle.capture.proofs.Promises.{always as capture-always}
 use Rattle.trace_promises.proofs.Records.{records}
+use Rattle.trace_promises.proofs.Names.{names}
+use Rattle.trace_promises.proofs.Means.{kinds}
+use Rattle.trace_promises.proofs.Means.{means}
 use Rattle.trace_promises.proofs.RoundTrip.{round-trip as trace-round-trip}
+use Rattle.trace_promises.proofs.RoundTrip.{fitting}
+use Rattle.trace_promises.proofs.WrittenBack.{written-back}
+use Rattle.trace_promises.proofs.Heeded.{heeded, places-hold}
 use Rattle.trace_promises.proofs.WholeRun.{goes-on as trace-goes-on}
 use Rattle.trace_promises.proofs.WholeRun.{bounded as trace-bounded}
 use Rattle.trace_promises.proofs.WholeRun.{whole-run as trace-whole-run}
@@ -87,7 +93,14 @@ every-promise =
       captureWhole = capture-whole-run;
       captureAlways = capture-always;
       records = records;
+      fieldNamed = names;
+      recordKinds = kinds;
+      recordMeans = means;
       recordTrip = trace-round-trip;
+      recordFitting = fitting;
+      recordBack = written-back;
+      heeded = heeded;
+      places = places-hold;
       traceGoesOn = trace-goes-on;
       traceBounded = trace-bounded;
       traceWhole = trace-whole-run;

@@ -11,6 +11,7 @@ use Rattle.call_promises.proofs.Granted.{granted}
 use Rattle.call_promises.proofs.MoreRights.{more-rights}
 use Rattle.call_promises.proofs.Credit.{credit, covered}
 use Rattle.call_promises.proofs.Sends.{sends}
+use Rattle.call_promises.proofs.Carriers.{carriers}
 use Rattle.call_promises.proofs.Becomes.{becomes, history}
 
 pub meets : Demands stepOf
@@ -31,6 +32,7 @@ meets =
       credit = credit;
       covered = covered;
       sends = sends;
+      carriers = carriers;
       becomes = becomes;
       history = history;
     }

@@ -11,10 +11,11 @@ one-reply =
       valued = λ A value r s a b. both a b;
       written = λ fits at p l l' l'' r s a b. (both (a .answer) (b .answer), both (a .buffer) (b .buffer));
       kept = λ from to l l' l'' r s a b. (both (a .count) (b .count), both (a .buffer) (b .buffer));
+      spelt = λ t from l l' l'' r s a b. (both (a .answer) (b .answer), both (a .buffer) (b .buffer));
       digested =
           λ c offset l l' l'' r s a b.
           ((λ i. record { used = both (a .used) (b .used) i; wrote = both (a .wrote) (b .wrote) i }), both (a .buffer) (b .buffer));
       workedOff =
-          λ explained last table t l l' l'' r s a b.
-          ((λ i. record { calls = both (a .calls) (b .calls) i; used = both (a .used) (b .used) i; wrote = both (a .wrote) (b .wrote) i; ended = both (a .ended) (b .ended) i }), both (a .buffer) (b .buffer));
+          λ p last table t l l' l'' r s a b.
+          ((λ i. record { calls = both (a .calls) (b .calls) i; used = both (a .used) (b .used) i; wrote = both (a .wrote) (b .wrote) i; records = both (a .records) (b .records) i; end = both (a .end) (b .end) i }), both (a .buffer) (b .buffer));
     }

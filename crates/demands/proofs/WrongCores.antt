@@ -6,6 +6,7 @@ use mathlib.Core.Path.{_≡_, refl, sym, _∙_, ap}
 use native.Mathlib.Omega.{arith}
 use Rattle.cause.specs.declared.Cause.{Cause}
 use Rattle.rights.specs.declared.Rights.{Rights}
+use Rattle.rights.specs.declared.Service.{Service}
 use Rattle.services.specs.declared.Answers.{Answers}
 use Rattle.services.specs.declared.Given.{Given}
 use Rattle.services.specs.declared.Request.{Request}
@@ -16,6 +17,7 @@ use Rattle.flow_meter.specs.declared.Meter.{Meter}
 use Rattle.phases.specs.declared.Phase.{Phase}
 use Rattle.answer.specs.Answer.{numberOf}
 use Rattle.sent.specs.declared.Sent.{Sent}
+use Rattle.sent.specs.declared.dispatch.Carrier.{Carrier}
 use Rattle.sent.specs.declared.side.Side.{Side}
 use Rattle.call.specs.declared.Call.{Call}
 use Rattle.call.specs.declared.reply.Reply.{Reply}
@@ -35,7 +37,7 @@ use Rattle.sent.specs.Message.{silence, sayingOf, bareOf, congestionOf, informs
 use Rattle.flow_meter.specs.CallMeters.{emptyMeters, grantsOf, refillsOf, readyOf, tickedMetersOf}
 use Rattle.call.specs.Sound.{freshCall, fieldsFitOf, soundOf, inPhaseOf}
 use Rattle.call.specs.Reply.{barOf, refusedOf, heardOf, replyOf}
-use Rattle.call.specs.Setup.{filledOf, proceedsOf, setupOf}
+use Rattle.call.specs.Setup.{proceedsOf, setupOf}
 use Rattle.call.specs.Answering.{answeredCallOf, goesOnOf, clearsOf, answeredOf, alertingOf, connectOf}
 use Rattle.call.specs.Information.{metersOf, informationPassageOf, carriedOf, withElementOf, informationOf}
 use Rattle.clearing_rules.specs.Closing.{silentAnswers, closingFacilitiesOf}
@@ -44,11 +46,12 @@ use Rattle.call.specs.Facility.{facilityVerdictOf, facilityCallOf, passesFacili
 use Rattle.call.specs.Tick.{runsOf, passesTickOf, tickOf}
 use Rattle.call.specs.Disconnect.{endsOf, releaseCompleteOf}
 use Rattle.call_promises.specs.Numbers.{Core}
-use Rattle.call_promises.specs.Refusals.{sentTo}
+use Rattle.call_promises.specs.Refusals.{sentTo, altered}
 use Rattle.call_promises.specs.Sends.{SendsExactly}
+use Rattle.call_promises.specs.Carriers.{CarriersExactly}
 use Rattle.call_promises.specs.Becomes.{BecomesExactly}
-use Rattle.demands.specs.WrongCores.{refuses, fixed, mute, nods, but, opensBoth, keepsMarks, keepsOpen, creditsOne, never29, never31, leavesAsking, invents, mumbles, returns, forgetsThree, leavesElement, WrongCores}
-use Rattle.demands.proofs.Decided.{same-record, same-numbers, same-messages}
+use Rattle.demands.specs.WrongCores.{refuses, fixed, mute, nods, but, opensBoth, keepsMarks, keepsOpen, creditsOne, never29, never31, leavesAsking, invents, mumbles, returns, forgetsThree, leavesElement, chargesThree, WrongCores}
+use Rattle.demands.proofs.Decided.{same-record, same-numbers, same-messages, same-carrier}
 
 -- a call with every right, in some phase, with services and marks as they may be
 abbrev every : Rights
@@ -108,6 +111,12 @@ abbrev isSent : Sent → ℕ
 isSent Sent.Absent = 0
 isSent (Sent.Present m) = 1
 
+abbrev bearer : Carrier → ℕ
+bearer Carrier.Nobody = 0
+bearer (Carrier.By Service.One) = 1
+bearer (Carrier.By Service.Two) = 2
+bearer (Carrier.By Service.Three) = 3
+
 abbrev isClosed : Standing → ℕ
 isClosed Standing.Unasked = 0
 isClosed Standing.Preferred = 0
@@ -158,14 +167,10 @@ abbrev agreed : Trial
 agreed =
     record {
       call =
-          record {
-            reference = 5;
-            rights = every;
-            phase = Phase.Active;
-            standings = record { one = Standing.Unasked; two = Standing.Unasked; three = Standing.Unasked };
-            asking = record { calling = true; called = false };
-            meters = record { calling = meter false; called = meter false };
-          };
+          altered (callIn Phase.Active Standing.Unasked Standing.Unasked false) Phase.Active
+          (record { one = Standing.Unasked; two = Standing.Unasked; three = Standing.Unasked })
+          (record { calling = true; called = false })
+          (record { calling = meter false; called = meter false });
       event = Event.Facility Side.Called What.Accept;
       element = [];
     }
@@ -191,11 +196,24 @@ released = at Phase.Active Standing.Unasked Standing.Unasked false (Event.Releas
 abbrev cleared : Trial
 cleared = at Phase.Active Standing.InForce Standing.Unasked false (Event.Disconnect Side.Calling 16 (saying Given.Silent Given.Silent)) cue
 
+-- service 2 in force while it rings, and none of its messages sent
+abbrev counted : Trial
+counted =
+    record {
+      call =
+          altered (callIn Phase.Alerting Standing.Unasked Standing.Unasked false) Phase.Alerting
+          (record { one = Standing.Unasked; two = Standing.InForce; three = Standing.Unasked })
+          (record { calling = false; called = false })
+          (record { calling = meter false; called = meter false });
+      event = Event.Information Side.Calling false;
+      element = cue;
+    }
+
 -- what the replies of our core and of a wrong one show there
 record Facts : Type 0 where
   before : isUp (freshCall .phase) ≡ 0
   opens : isUp (ours opened .call .phase) ≡ 1
-  proceeds : isSent (ours opened .calling) ≡ 1
+  proceeds : isSent (ours opened .dispatch .calling) ≡ 1
   taken : numberOf (ours opened .answer) ≡ 0
   barred : numberOf (ours early .answer) ≡ 11
   ends : isUp (ours released .call .phase) ≡ 0
@@ -205,15 +223,16 @@ record Facts : Type 0 where
   closes : (isClosed (ours unanswered .call .standings .one) ≡ 1) × (isClosed (theirs keepsOpen unanswered .call .standings .one) ≡ 0)
   credits : (ours accepted .call .meters .called .credit ≡ 2) × (theirs creditsOne accepted .call .meters .called .credit ≡ 0)
   fills : (ours ticked .call .meters .calling .credit ≡ 1) × (theirs invents ticked .call .meters .calling .credit ≡ 2)
-  blames : (causeIn (ours rejected .calling) ≡ 29) × (causeIn (theirs never29 rejected .calling) ≡ 69)
-  clears : (causeIn (ours rejected .called) ≡ 31) × (causeIn (theirs never31 rejected .called) ≡ 69)
-  warns : (causeIn (ours unpaid .calling) ≡ 43) × (causeIn (theirs mumbles unpaid .calling) ≡ 128)
-  releases : (isSent (ours released .called) ≡ 1) × (isSent (theirs returns released .called) ≡ 0)
-  passes : (threeIn (ours asked .called) ≡ 1) × (threeIn (theirs forgetsThree asked .called) ≡ 0)
-  rides : (elementIn (ours cleared .called) ≡ 1) × (elementIn (theirs leavesElement cleared .called) ≡ 0)
+  blames : (causeIn (ours rejected .dispatch .calling) ≡ 29) × (causeIn (theirs never29 rejected .dispatch .calling) ≡ 69)
+  clears : (causeIn (ours rejected .dispatch .called) ≡ 31) × (causeIn (theirs never31 rejected .dispatch .called) ≡ 69)
+  warns : (causeIn (ours unpaid .dispatch .calling) ≡ 43) × (causeIn (theirs mumbles unpaid .dispatch .calling) ≡ 128)
+  releases : (isSent (ours released .dispatch .called) ≡ 1) × (isSent (theirs returns released .dispatch .called) ≡ 0)
+  passes : (threeIn (ours asked .dispatch .called) ≡ 1) × (threeIn (theirs forgetsThree asked .dispatch .called) ≡ 0)
+  rides : (elementIn (ours cleared .dispatch .called) ≡ 1) × (elementIn (theirs leavesElement cleared .dispatch .called) ≡ 0)
+  counts : (bearer (ours counted .dispatch .carrier) ≡ 2) × (bearer (theirs chargesThree counted .dispatch .carrier) ≡ 3)
 
 facts : Facts
-unfolding emptyOf meterFitsOf grantedOf countedOf paidOf markedOf underThreeOf passageOf wellFormedOf seenOf goesOutOf rightsFitOf referenceFitsOf remainsOf firstStandingOf standingsOf lacksOf passedRequestsOf networkRefusalsOf failedOf settlesOf tellsOf declinesOf silence nobodyAsks sayingOf bareOf congestionOf informsOf onlyIfOf noRights noServices emptyMeters freshCall fieldsFitOf soundOf inPhaseOf barOf refusedOf heardOf replyOf setupPhaseOf filledOf toCallerOf toCalledOf setupCarriesOf proceedsOf setupOf grantsOf answeredCallOf goesOnOf clearsOf alertingFatesOf connectFatesOf answeredOf alertingOf connectOf metersOf informationPassageOf carriedOf withElementOf informationOf refilledOf tickedOf toRequestOf toAnswerOf silentAnswers closingFacilitiesOf closedCallOf passedOnOf disconnectOf facilityVerdictOf facilityCallOf aboutThreeOf passesFacilityOf facilityOf tickedMetersOf refillsOf readyOf runsOf passesTickOf tickOf releaseCompleteOf endsOf
+unfolding emptyOf meterFitsOf grantedOf countedOf paidOf markedOf underThreeOf passageOf wellFormedOf seenOf goesOutOf rightsFitOf referenceFitsOf remainsOf firstStandingOf standingsOf lacksOf passedRequestsOf networkRefusalsOf failedOf settlesOf tellsOf declinesOf silence nobodyAsks sayingOf bareOf congestionOf informsOf onlyIfOf noRights noServices emptyMeters freshCall fieldsFitOf soundOf inPhaseOf barOf refusedOf heardOf replyOf setupPhaseOf toCallerOf toCalledOf setupCarriesOf proceedsOf setupOf grantsOf answeredCallOf goesOnOf clearsOf alertingFatesOf connectFatesOf answeredOf alertingOf connectOf metersOf informationPassageOf carriedOf withElementOf informationOf refilledOf tickedOf toRequestOf toAnswerOf silentAnswers closingFacilitiesOf closedCallOf passedOnOf disconnectOf facilityVerdictOf facilityCallOf aboutThreeOf passesFacilityOf facilityOf tickedMetersOf refillsOf readyOf runsOf passesTickOf tickOf releaseCompleteOf endsOf
 facts =
     record {
       before = refl;
@@ -234,14 +253,18 @@ facts =
       releases = (refl, refl);
       passes = (refl, refl);
       rides = (refl, refl);
+      counts = (refl, refl);
     }
 
--- a core whose record, or whose message, shows something else at one event
+-- a core whose record, message or carrier shows something else at one event
 by-record : (f : Core) (t : Trial) (look : Call → ℕ) (m n : ℕ) → look (ours t .call) ≡ m → look (f (t .call) (t .event) (t .element) .call) ≡ n → (m ≡ n → ⊥) → BecomesExactly f → ⊥
 by-record f t look m n p q x d = x (sym p ∙ sym (ap look (same-record f d (t .call) (t .event) (t .element))) ∙ q)
 
 by-message : (f : Core) (t : Trial) (side : Side) (look : Sent → ℕ) (m n : ℕ) → look (sentTo (ours t) side) ≡ m → look (sentTo (f (t .call) (t .event) (t .element)) side) ≡ n → (m ≡ n → ⊥) → SendsExactly f → ⊥
 by-message f t side look m n p q x d = x (sym p ∙ sym (ap look (same-messages f d (t .call) (t .event) (t .element) side)) ∙ q)
+
+by-carrier : (f : Core) (t : Trial) (m n : ℕ) → bearer (ours t .dispatch .carrier) ≡ m → bearer (f (t .call) (t .event) (t .element) .dispatch .carrier) ≡ n → (m ≡ n → ⊥) → CarriersExactly f → ⊥
+by-carrier f t m n p q x d = x (sym p ∙ sym (ap bearer (same-carrier f d (t .call) (t .event) (t .element))) ∙ q)
 
 pub wrong-cores : WrongCores
 wrong-cores =
@@ -264,4 +287,5 @@ wrong-cores =
       returning = by-message (but returns) released Side.Called isSent 1 0 (facts .releases .0) (facts .releases .1) (omega arith);
       forgetting = by-message (but forgetsThree) asked Side.Called threeIn 1 0 (facts .passes .0) (facts .passes .1) (omega arith);
       leaving = by-message (but leavesElement) cleared Side.Called elementIn 1 0 (facts .rides .0) (facts .rides .1) (omega arith);
+      charging = by-carrier (but chargesThree) counted 2 3 (facts .counts .0) (facts .counts .1) (omega arith);
     }

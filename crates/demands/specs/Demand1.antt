@@ -39,8 +39,8 @@ pub data Listed : ℕ → Type 0 where
 
 -- what a side is sent at the table
 abbrev pub outTo : Outcome → Side → Sent
-outTo o Side.Calling = o .calling
-outTo o Side.Called = o .called
+outTo o Side.Calling = o .dispatch .calling
+outTo o Side.Called = o .dispatch .called
 
 -- what a side is sent, and the other side nothing
 pub record OneMessage (o : Outcome) (side : Side) (s : Sent) : Type 0 where

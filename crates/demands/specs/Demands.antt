@@ -16,6 +16,7 @@ use Rattle.call_promises.specs.Services.{Required, Failed, Granted}
 use Rattle.call_promises.specs.MoreRights.{MoreRights}
 use Rattle.call_promises.specs.Credit.{Credit, Covered}
 use Rattle.call_promises.specs.Sends.{SendsExactly}
+use Rattle.call_promises.specs.Carriers.{CarriersExactly}
 use Rattle.call_promises.specs.Becomes.{BecomesExactly, History}
 
 pub record Demands (f : Core) : Type 0 where
@@ -43,9 +44,10 @@ pub record Demands (f : Core) : Type 0 where
   -- CREDITS. Each credit and count is what the events make it, and nothing goes over unpaid
   pub credit : Credit f
   pub covered : Covered f
-  -- THE REST OF THE PAPER ON ONE CALL. What each user is sent, and every field of the next record, for every record,
-  -- event and element; and so after every run
+  -- THE REST OF THE PAPER ON ONE CALL. What each user is sent, which service carries the element, and every field of
+  -- the next record, for every record, event and element; and so after every run
   pub sends : SendsExactly f
+  pub carriers : CarriersExactly f
   pub becomes : BecomesExactly f
   pub history : History f
 

@@ -33,7 +33,14 @@ use Rattle.capture.specs.Promises.{Bounded as CaptureBounded}
 use Rattle.capture.specs.Promises.{WholeRun as CaptureWholeRun}
 use Rattle.capture.specs.Promises.{Always as CaptureAlways}
 use Rattle.trace_promises.specs.Records.{Records}
+use Rattle.trace_promises.specs.Names.{Names}
+use Rattle.trace_promises.specs.Means.{Kinds}
+use Rattle.trace_promises.specs.Means.{Means}
 use Rattle.trace_promises.specs.RoundTrip.{RoundTrip as TraceRoundTrip}
+use Rattle.trace_promises.specs.RoundTrip.{Fitting}
+use Rattle.trace_promises.specs.RoundTrip.{WrittenBack}
+use Rattle.trace_promises.specs.Heeded.{Heeded}
+use Rattle.trace_promises.specs.Heeded.{Places}
 use Rattle.trace_promises.specs.WholeRun.{GoesOn as TraceGoesOn}
 use Rattle.trace_promises.specs.WholeRun.{Bounded as TraceBounded}
 use Rattle.trace_promises.specs.WholeRun.{WholeRun as TraceWholeRun}
@@ -93,7 +100,14 @@ pub record EveryPromise : Type 1 where
   pub captureAlways : CaptureAlways
   -- TRACES, read in pieces
   pub records : Records
+  pub fieldNamed : Names
+  pub recordKinds : Kinds
+  pub recordMeans : Means
   pub recordTrip : TraceRoundTrip
+  pub recordFitting : Fitting
+  pub recordBack : WrittenBack
+  pub heeded : Heeded
+  pub places : Places
   pub traceGoesOn : TraceGoesOn
   pub traceBounded : TraceBounded
   pub traceWhole : TraceWholeRun

@@ -1,11 +1,13 @@
--- Cores that are no core of ours, each with the demand that it does not meet: those that the paper names, "always refuses,
--- has one fixed reply, sends nothing, or handles only SETUP and nods later"; and ours with its replies changed, so that the
--- rule named is broken (by some of them another besides: what is changed is the reply, whatever the event was).
+-- Cores that are no core of ours, each with the demand that it does not meet: those that the paper names, "always
+-- refuses, has one fixed reply, sends nothing, or handles only SETUP and nods later"; and ours with its replies
+-- changed, so that the rule named is broken (by some of them another besides: what is changed is the reply, whatever
+-- the event was).
 use Prim.Native.Nat.{ℕ, _+_}
 use mathlib.Core.List.{List}
 use mathlib.Core.Bool.{Bool, true, false, cond, _&&_, _||_}
 use lib.Dec.{eqb, ltb}
 use Rattle.cause.specs.declared.Cause.{Cause}
+use Rattle.rights.specs.declared.Service.{Service}
 use Rattle.services.specs.declared.Said.{Said}
 use Rattle.services.specs.declared.Standing.{Standing}
 use Rattle.services.specs.declared.Standings.{Standings}
@@ -16,18 +18,29 @@ use Rattle.flow_meter.specs.declared.Meter.{Meter}
 use Rattle.flow_meter.specs.declared.call_meters.Meters.{Meters}
 use Rattle.sent.specs.declared.Message.{Message}
 use Rattle.sent.specs.declared.Sent.{Sent}
+use Rattle.sent.specs.declared.dispatch.Carrier.{Carrier}
+use Rattle.sent.specs.declared.dispatch.Dispatch.{Dispatch}
 use Rattle.message_types.specs.Kind.{kindOctet}
 use Rattle.call.specs.declared.Call.{Call}
 use Rattle.call.specs.declared.reply.Reply.{Reply}
 use Rattle.event.specs.declared.Event.{Event}
 use Rattle.call.specs.Step.{stepOf}
+use Rattle.table.specs.Choice.{opensOf}
 use Rattle.call_promises.specs.Numbers.{Core, AnswersExactly}
+use Rattle.call_promises.specs.Refusals.{altered}
 use Rattle.call_promises.specs.Sends.{SendsExactly}
-use Rattle.call_promises.specs.Becomes.{BecomesExactly, altered}
+use Rattle.call_promises.specs.Carriers.{CarriersExactly}
+use Rattle.call_promises.specs.Becomes.{BecomesExactly}
 
 -- leaves the record and sends nothing
 abbrev pub idle : Call → Answer → Reply
-idle c a = record { call = c; answer = a; note = Note.Clear; calling = Sent.Absent; called = Sent.Absent }
+idle c a =
+    record {
+      call = c;
+      answer = a;
+      note = Note.Clear;
+      dispatch = record { calling = Sent.Absent; called = Sent.Absent; carrier = Carrier.Nobody };
+    }
 
 -- is idle at every event, with any answers
 abbrev pub refuses : (Call → Event → List ℕ → Answer) → Core
@@ -36,9 +49,12 @@ refuses a c e l = idle c (a c e l)
 abbrev pub fixed : Reply → Core
 fixed r c e l = r
 
+abbrev pub sending : Reply → Dispatch → Reply
+sending r dispatch = record { call = r .call; answer = r .answer; note = r .note; dispatch = dispatch }
+
 abbrev pub withSent : Reply → Sent → Sent → Reply
 withSent r calling called =
-    record { call = r .call; answer = r .answer; note = r .note; calling = calling; called = called }
+    sending r (record { calling = calling; called = called; carrier = r .dispatch .carrier })
 
 -- does what a core does, but for its messages
 abbrev pub mute : Core → Core
@@ -46,16 +62,7 @@ mute f c e l = withSent (f c e l) Sent.Absent Sent.Absent
 
 -- does what a core does at SETUP, and later answers 0 and does nothing
 abbrev pub nods : Core → Core
-nods f c (Event.Setup reference rights requests) l = f c (Event.Setup reference rights requests) l
-nods f c (Event.Alerting answers) l = idle c Answer.Taken
-nods f c (Event.Connect answers) l = idle c Answer.Taken
-nods f c (Event.Information side more) l = idle c Answer.Taken
-nods f c (Event.Facility side what) l = idle c Answer.Taken
-nods f c (Event.Disconnect side cause answers) l = idle c Answer.Taken
-nods f c (Event.ReleaseComplete side) l = idle c Answer.Taken
-nods f c Event.Tick l = idle c Answer.Taken
-nods f c Event.CallProceeding l = idle c Answer.Taken
-nods f c Event.CongestionControl l = idle c Answer.Taken
+nods f c e l = cond (opensOf e) (f c e l) (idle c Answer.Taken)
 
 -- our core, with its reply changed afterwards
 abbrev pub but : (Call → Reply → Reply) → Core
@@ -68,8 +75,7 @@ holding r standings asking meters =
       call = altered (r .call) (r .call .phase) standings asking meters;
       answer = r .answer;
       note = r .note;
-      calling = r .calling;
-      called = r .called;
+      dispatch = r .dispatch;
     }
 
 abbrev pub askingBut : Reply → Asking → Reply
@@ -156,18 +162,18 @@ sixtyNineFor k (Cause.Value n) = Cause.Value (cond (eqb n k) 69 n)
 
 -- the caller never hears 29: an explicit rejection gives 69
 abbrev pub never29 : Call → Reply → Reply
-never29 c r = withSent r (inEach (λ m. withCause m (sixtyNineFor 29 (m .cause))) (r .calling)) (r .called)
+never29 c r = withSent r (inEach (λ m. withCause m (sixtyNineFor 29 (m .cause))) (r .dispatch .calling)) (r .dispatch .called)
 
 -- the called user never hears 31: where a required service fails it hears 69
 abbrev pub never31 : Call → Reply → Reply
-never31 c r = withSent r (r .calling) (inEach (λ m. withCause m (sixtyNineFor 31 (m .cause))) (r .called))
+never31 c r = withSent r (r .dispatch .calling) (inEach (λ m. withCause m (sixtyNineFor 31 (m .cause))) (r .dispatch .called))
 
 -- congestion is told without its cause
 abbrev pub causeless : Message → Message
 causeless m = cond (eqb (kindOctet (m .kind)) 0x79) (withCause m Cause.Absent) m
 
 abbrev pub mumbles : Call → Reply → Reply
-mumbles c r = withSent r (inEach causeless (r .calling)) (inEach causeless (r .called))
+mumbles c r = withSent r (inEach causeless (r .dispatch .calling)) (inEach causeless (r .dispatch .called))
 
 -- RELEASE COMPLETE goes back to its sender, and is not passed on
 abbrev pub causeAbsent : Cause → Bool
@@ -180,7 +186,7 @@ bareRelease (Sent.Present m) = eqb (kindOctet (m .kind)) 0x5A && causeAbsent (m 
 
 abbrev pub returns : Call → Reply → Reply
 returns c r =
-    cond (bareRelease (r .calling) || bareRelease (r .called)) (withSent r (r .called) (r .calling)) r
+    cond (bareRelease (r .dispatch .calling) || bareRelease (r .dispatch .called)) (withSent r (r .dispatch .called) (r .dispatch .calling)) r
 
 -- no message says anything of service 3
 abbrev pub withoutThree : Message → Message
@@ -195,7 +201,7 @@ withoutThree m =
     }
 
 abbrev pub forgetsThree : Call → Reply → Reply
-forgetsThree c r = withSent r (inEach withoutThree (r .calling)) (inEach withoutThree (r .called))
+forgetsThree c r = withSent r (inEach withoutThree (r .dispatch .calling)) (inEach withoutThree (r .dispatch .called))
 
 -- the element of an event that is passed on stays behind
 abbrev pub withoutElement : Message → Message
@@ -203,7 +209,23 @@ withoutElement m =
     record { kind = m .kind; cause = m .cause; level = m .level; said = m .said; more = m .more; element = false }
 
 abbrev pub leavesElement : Call → Reply → Reply
-leavesElement c r = withSent r (inEach withoutElement (r .calling)) (inEach withoutElement (r .called))
+leavesElement c r = withSent r (inEach withoutElement (r .dispatch .calling)) (inEach withoutElement (r .dispatch .called))
+
+-- service 3 is said to carry what service 2's count paid for
+abbrev pub threeForTwo : Carrier → Carrier
+threeForTwo Carrier.Nobody = Carrier.Nobody
+threeForTwo (Carrier.By Service.One) = Carrier.By Service.One
+threeForTwo (Carrier.By Service.Two) = Carrier.By Service.Three
+threeForTwo (Carrier.By Service.Three) = Carrier.By Service.Three
+
+abbrev pub chargesThree : Call → Reply → Reply
+chargesThree c r =
+    sending r
+    (record {
+      calling = r .dispatch .calling;
+      called = r .dispatch .called;
+      carrier = threeForTwo (r .dispatch .carrier);
+    })
 
 -- SHUT OUT. None of these meets the demand that stands beside it.
 pub record WrongCores : Type 0 where
@@ -223,3 +245,4 @@ pub record WrongCores : Type 0 where
   pub returning : SendsExactly (but returns) → ⊥
   pub forgetting : SendsExactly (but forgetsThree) → ⊥
   pub leaving : SendsExactly (but leavesElement) → ⊥
+  pub charging : CarriersExactly (but chargesThree) → ⊥
