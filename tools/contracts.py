@@ -16,7 +16,7 @@ INTRODUCTION = """\
 # Public functions by the form of their contract
 
 This page is made from the sources by `python3 tools/contracts.py`: change them, and not this page. Of each of the first
-five forms `crates/demands/specs/OneReply.antt` says, and `crates/demands/proofs/OneReply.antt` proves, that two replies
+six forms `crates/demands/specs/OneReply.antt` says, and `crates/demands/proofs/OneReply.antt` proves, that two replies
 to one input are the same, and what is lent too. No public function has a `requires`.
 """
 
@@ -25,6 +25,7 @@ FORMS = (
     ("Value", None, "The result, or what is lent at the end, is a definition's value of what went in."),
     ("Written", "Written", "A piece goes into lent memory at a place, whole, or no octet of it does."),
     ("Kept", "Kept", "Octets of lent memory are moved to its front."),
+    ("Spells", "Spells", "A piece of text is read as octets into lent memory, as far as it goes."),
     ("Digested", "Digested", "A piece of a capture is printed into lent memory, as far as it goes."),
     ("WorkedOff", "WorkedOff", "A piece of a trace is worked off at a lent table and printed into lent memory."),
     ("Refilled", "Refilled", "What was held stands in front of what was read; what was read is the world's, and not said."),
