@@ -1,9 +1,9 @@
 #!/usr/bin/env python3
-"""Runs the programs under faults of their standard input and output, and prints a line for each: ok, or what differs.
+"""Runs the programs under faults of their standard input and output, and prints a line for each: ok, or differs.
 
 Run it from anywhere after ./build: python3 tools/faults.py. It goes through what README.md says under "What is said when
-something goes wrong": a folder and nothing at all as input, a full device and nothing at all as output, input and output
-that do not block, input octet by octet, and the faults of a trace.
+something goes wrong": a folder and nothing at all as input, a full device as output, input and output that do not
+block, input octet by octet, and the faults of a trace. It does not try signals.
 """
 import fcntl
 import os
@@ -55,7 +55,7 @@ def ends_that_fail():
         out, err = run(name, stdin=folder)
         os.close(folder)
         told(f"{name} of a folder", out == first and one_line(err, b"read failed (21)"))
-        done = subprocess.run(f"{ROOT}/run {name} <&-", shell=True, capture_output=True)
+        done = subprocess.run(["sh", "-c", '"$0" "$1" <&-', ROOT / "run", name], capture_output=True)
         told(f"{name} of nothing", done.stdout == first and one_line(done.stderr, b"read failed (9)"))
     for name in (*FIRST, "edges", "annex_b"):
         given = b"00 " * 10 if name == "from_hex" else b""
@@ -123,13 +123,25 @@ def faults_of_a_trace():
         (b"\x05\x00\x05\x00\x04", b"record 1 at octet 0: what is out of range\n"),
         (b"\x02\x00\x05\x00\x03\x00" + bytes(132), b"record 1 at octet 0: answer 2 is out of range\n"),
         (b"\x04\x00\x05\x00\x01" + bytes(131), b"record 1 at octet 0: element is out of range\n"),
-        (b"\x04\x00\x05\x00" + bytes(131) + b"\x01", b"record 1 at octet 0: what follows the element is out of range\n"),
+        (
+            b"\x04\x00\x05\x00" + bytes(131) + b"\x01",
+            b"record 1 at octet 0: what follows the element is out of range\n",
+        ),
     ):
         out, err = run("replay", input=octets)
         told(line.decode().strip(), err == line and out.split(b"\n")[-2].startswith(b"error 3"))
 
 
+def built():
+    """The programs are there, and no source is newer: otherwise ./run says so itself."""
+    for name in (*FIRST, "edges", "annex_b"):
+        done = subprocess.run([ROOT / "run", name], stdin=subprocess.DEVNULL, capture_output=True)
+        if done.returncode or done.stderr:
+            sys.exit("faults.py: ./build first: " + done.stderr.decode().strip())
+
+
 def main():
+    built()
     ends_that_fail()
     input_that_pauses("replay", TRACE, LINES)
     input_that_pauses("decode", CAPTURE, DECODED)
