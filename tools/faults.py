@@ -1,8 +1,8 @@
 #!/usr/bin/env python3
 """Runs the programs under faults of their standard input and output, and prints a line for each: ok, or differs.
 
-Run it from anywhere after ./build: python3 tools/faults.py. It goes through what README.md says under "What is said when
-something goes wrong": a folder and nothing at all as input, a full device as output, input and output that do not
+Run it from anywhere after ./build: python3 tools/faults.py. It goes through what README.md says under "What is said
+when something goes wrong": a folder and nothing at all as input, a full device as output, input and output that do not
 block, input octet by octet, and the faults of a trace. It does not try signals.
 """
 import fcntl
