@@ -1,12 +1,11 @@
 -- What the fates of the services make of a call.
-use Rattle.cause.specs.declared.Cause.{Cause}
+use mathlib.Core.Bool.{Bool, true, false, _||_}
 use Rattle.services.specs.declared.Facilities.{Facilities}
 use Rattle.answering_rules.specs.declared.Fate.{Fate}
 use Rattle.answering_rules.specs.declared.Fates.{Fates}
 use Rattle.services.specs.declared.Said.{Said}
 use Rattle.services.specs.declared.Standing.{Standing}
 use Rattle.services.specs.declared.Standings.{Standings}
-use Rattle.cause.specs.Cause.{firstOf}
 use Prim.Native.Nat.{ℕ}
 use Rattle.flow_meter.specs.declared.call_meters.Meters.{Meters}
 use Rattle.flow_meter.specs.CallMeters.{grantsOf}
@@ -17,31 +16,31 @@ abbrev pub settledOf : Standing → Fate → Standing
 settledOf s Fate.Kept = s
 settledOf s Fate.Accepted = Standing.InForce
 settledOf s Fate.Closed = Standing.Closed
-settledOf s (Fate.Failed n) = Standing.Closed
+settledOf s Fate.Failed = Standing.Closed
 
 -- "the message goes on with these answers": accepted, or "closed, rejectedByUser to the caller"
 abbrev pub toldOf : Fate → Said
 toldOf Fate.Kept = Said.Nothing
 toldOf Fate.Accepted = Said.Accepted
 toldOf Fate.Closed = Said.ByUser
-toldOf (Fate.Failed n) = Said.ByUser
+toldOf Fate.Failed = Said.ByUser
 
 -- "DISCONNECT to the caller with rejectedByUser for each due service not accepted"
 abbrev pub declinedOf : Fate → Said
 declinedOf Fate.Kept = Said.Nothing
 declinedOf Fate.Accepted = Said.Nothing
 declinedOf Fate.Closed = Said.ByUser
-declinedOf (Fate.Failed n) = Said.ByUser
+declinedOf Fate.Failed = Said.ByUser
 
-abbrev pub failureOf : Fate → Cause
-failureOf Fate.Kept = Cause.Absent
-failureOf Fate.Accepted = Cause.Absent
-failureOf Fate.Closed = Cause.Absent
-failureOf (Fate.Failed n) = Cause.Value n
+abbrev pub failureOf : Fate → Bool
+failureOf Fate.Kept = false
+failureOf Fate.Accepted = false
+failureOf Fate.Closed = false
+failureOf Fate.Failed = true
 
--- "by the lowest failed required service"
-unfoldable pub failedOf : Fates → Cause
-failedOf f = firstOf (failureOf (f .one)) (firstOf (failureOf (f .two)) (failureOf (f .three)))
+-- "Required and not accepted", whichever service it is
+unfoldable pub failedOf : Fates → Bool
+failedOf f = (failureOf (f .one) || failureOf (f .two)) || failureOf (f .three)
 
 unfoldable pub settlesOf : Standings → Fates → Standings
 settlesOf s f =
@@ -62,4 +61,4 @@ abbrev pub inForceAfterOf : Meters → ℕ → Fate → Meters
 inForceAfterOf m burst Fate.Kept = m
 inForceAfterOf m burst Fate.Accepted = grantsOf m burst
 inForceAfterOf m burst Fate.Closed = m
-inForceAfterOf m burst (Fate.Failed n) = m
+inForceAfterOf m burst Fate.Failed = m

@@ -6,18 +6,17 @@ use Rattle.answering_rules.specs.declared.Fates.{Fates}
 use Rattle.services.specs.declared.Given.{Given}
 use Rattle.services.specs.declared.Standing.{Standing}
 use Rattle.services.specs.declared.Standings.{Standings}
-use Rattle.cause.specs.Cause.{rejected, notAnswered}
 
--- "Accepted: in force. Preferred and not accepted: closed. .. Required and not accepted: DISCONNECT to the caller. ..
--- The caller's cause is 29 for an explicit rejection, 69 for none."
+-- "Accepted: in force. Preferred and not accepted: closed. .. Required and not accepted: DISCONNECT to the caller",
+-- whether it is rejected or nothing is said of it
 -- "Answers .. not asked are ignored; implicit service 1 is due none and stays in force."
 abbrev pub decidedOf : Standing → Given → Fate
 decidedOf Standing.Preferred Given.Accepted = Fate.Accepted
 decidedOf Standing.Preferred Given.Rejected = Fate.Closed
 decidedOf Standing.Preferred Given.Silent = Fate.Closed
 decidedOf Standing.Required Given.Accepted = Fate.Accepted
-decidedOf Standing.Required Given.Rejected = Fate.Failed rejected
-decidedOf Standing.Required Given.Silent = Fate.Failed notAnswered
+decidedOf Standing.Required Given.Rejected = Fate.Failed
+decidedOf Standing.Required Given.Silent = Fate.Failed
 decidedOf Standing.Unasked g = Fate.Kept
 decidedOf Standing.InForce g = Fate.Kept
 decidedOf Standing.Closed g = Fate.Kept

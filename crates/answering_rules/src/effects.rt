@@ -1,10 +1,8 @@
-// What the fates of the services make of a call: how each then stands, what is said of it, and the cause if one failed.
+// What the fates of the services make of a call: how each then stands, what is said of it, and whether one failed.
 ghost use mathlib.Core.Path.{_≡_};
 ghost use Rattle.answering_rules.specs.Effects.{settledOf, toldOf, declinedOf, failureOf, failedOf, settlesOf, tellsOf, declinesOf, inForceAfterOf};
 use crate::Fate;
 use crate::Fates;
-use cause::Cause;
-use cause::first;
 use flow_meter::call_meters::Meters;
 use flow_meter::call_meters::grants;
 use services::Facilities;
@@ -44,23 +42,23 @@ fn declined(f: Fate) -> Said
     }
 }
 
-fn failure(f: Fate) -> Cause
+fn failure(f: Fate) -> bool
     ensures { λ r. ⌜ r ≡ failureOf f ⌝ }
 {
     match f {
-        Fate::Failed(n) => Cause::Value(n),
-        _ => Cause::Absent,
+        Fate::Failed => true,
+        _ => false,
     }
 }
 
-// The cause of the lowest failed required service, if one failed.
-pub fn failed(f: Fates) -> Cause
+// Whether a required service failed, which clears the call.
+pub fn failed(f: Fates) -> bool
     ensures { λ r. ⌜ r ≡ failedOf f ⌝ }
 {
     let one = f.one;
     let two = f.two;
     let three = f.three;
-    first(failure(one), first(failure(two), failure(three)))
+    failure(one) | failure(two) | failure(three)
 }
 
 pub fn settles(s: Standings, f: Fates) -> Standings

@@ -1,8 +1,6 @@
 // ALERTING and CONNECT: what the answers that are due make of each service. `effects` has what that makes of the call.
 ghost use mathlib.Core.Path.{_≡_};
 ghost use Rattle.answering_rules.specs.Fates.{decidedOf, alertingFatesOf, connectFatesOf};
-use cause::NOT_ANSWERED;
-use cause::REJECTED;
 use services::Answers;
 use services::Given;
 use services::Standing;
@@ -10,12 +8,12 @@ use services::Standings;
 
 pub mod effects;
 
-// What an answer that is due makes of a service. Failed holds the caller's cause.
+// What an answer that is due makes of a service. Failed: it was required and is not accepted.
 pub enum Fate {
     Kept,
     Accepted,
     Closed,
-    Failed(u8),
+    Failed,
 }
 
 pub struct Fates {
@@ -36,9 +34,9 @@ fn decided(s: Standing, g: Given) -> Fate
             Given::Rejected => Fate::Closed,
         },
         Standing::Required => match g {
-            Given::Silent => Fate::Failed(NOT_ANSWERED),
+            Given::Silent => Fate::Failed,
             Given::Accepted => Fate::Accepted,
-            Given::Rejected => Fate::Failed(REJECTED),
+            Given::Rejected => Fate::Failed,
         },
         Standing::InForce => Fate::Kept,
         Standing::Closed => Fate::Kept,

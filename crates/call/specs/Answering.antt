@@ -1,7 +1,7 @@
 -- ALERTING and CONNECT.
 use Prim.Native.Nat.{ℕ}
 use mathlib.Core.List.{List}
-use mathlib.Core.Bool.{true, false, not}
+use mathlib.Core.Bool.{Bool, true, false, not}
 use Rattle.cause.specs.declared.Cause.{Cause}
 use Rattle.user_element.specs.declared.Seen.{Seen}
 use Rattle.services.specs.declared.Answers.{Answers}
@@ -16,7 +16,7 @@ use Rattle.call.specs.declared.reply.Reply.{Reply}
 use Rattle.services.specs.Standing.{inForceOf}
 use Rattle.answering_rules.specs.Fates.{alertingFatesOf, connectFatesOf}
 use Rattle.answering_rules.specs.Effects.{failedOf, settlesOf, tellsOf, declinesOf, inForceAfterOf}
-use Rattle.cause.specs.Cause.{cleared}
+use Rattle.cause.specs.Cause.{notAccepted, cleared}
 use Rattle.user_element.specs.Element.{seenOf, notedOf, goesOutOf}
 use Rattle.sent.specs.Message.{sayingOf, bareOf}
 use Rattle.sent.specs.Dispatch.{byOneOf, toUsersOf}
@@ -43,21 +43,22 @@ goesOnOf c kind next f seen =
     }
 
 -- "Required and not accepted: DISCONNECT to the caller with rejectedByUser for each due service not accepted, and to
--- the called user with cause 31; Clearing." The message is not carried on, and so its element is not.
-unfoldable pub clearsOf : Call → ℕ → Fates → Seen → Reply
-clearsOf c cause f seen =
+-- the called user with cause 31; Clearing." The caller hears 69, as EN 300 286-1 has it of each service, of a rejection
+-- and of no answer (9.1.1.2.2, 9.2.1.2, 9.3.1.1.2). The message is not carried on, and so its element is not.
+unfoldable pub clearsOf : Call → Fates → Seen → Reply
+clearsOf c f seen =
     record {
       call = inPhaseOf c Phase.Clearing;
       answer = Answer.Taken;
       note = notedOf seen false;
       dispatch =
-          toUsersOf (sayingOf Kind.Disconnect (Cause.Value cause) (declinesOf f) false) (bareOf Kind.Disconnect (Cause.Value cleared)) Carrier.Nobody;
+          toUsersOf (sayingOf Kind.Disconnect (Cause.Value notAccepted) (declinesOf f) false) (bareOf Kind.Disconnect (Cause.Value cleared)) Carrier.Nobody;
     }
 
--- the cause is that of a failure, if there is one
-abbrev pub answeringOf : Call → Kind → Phase → Fates → Seen → Cause → Reply
-answeringOf c kind next f seen Cause.Absent = goesOnOf c kind next f seen
-answeringOf c kind next f seen (Cause.Value n) = clearsOf c n f seen
+-- a required service failed, or none did
+abbrev pub answeringOf : Call → Kind → Phase → Fates → Seen → Bool → Reply
+answeringOf c kind next f seen true = clearsOf c f seen
+answeringOf c kind next f seen false = goesOnOf c kind next f seen
 
 -- one message with answers
 unfoldable pub answeredOf : Call → Kind → Phase → Fates → List ℕ → Reply

@@ -17,6 +17,7 @@ use answering_rules::effects::settles;
 use answering_rules::effects::tells;
 use cause::CLEARED;
 use cause::Cause;
+use cause::NOT_ACCEPTED;
 use message_types::Kind;
 use phases::Phase;
 use phases::is_connectable;
@@ -66,8 +67,8 @@ fn goes_on(c: Call, kind: Kind, next: Phase, fates: Fates, seen: Seen) -> Reply
 }
 
 // A required service was not accepted: both users are cleared, and the element goes nowhere.
-fn clears(c: Call, cause: u8, fates: Fates, seen: Seen) -> Reply
-    ensures { λ r. ⌜ r ≡ clearsOf c cause fates seen ⌝ }
+fn clears(c: Call, fates: Fates, seen: Seen) -> Reply
+    ensures { λ r. ⌜ r ≡ clearsOf c fates seen ⌝ }
 {
     Reply {
         call: in_phase(c, Phase::Clearing),
@@ -76,7 +77,7 @@ fn clears(c: Call, cause: u8, fates: Fates, seen: Seen) -> Reply
         dispatch: to_users(
             saying(
                 Kind::Disconnect,
-                Cause::Value(cause),
+                Cause::Value(NOT_ACCEPTED),
                 declines(fates),
                 false,
             ),
@@ -92,9 +93,10 @@ fn answered(c: Call, kind: Kind, next: Phase, fates: Fates, element: &[u8]) -> R
 {
     let rights = c.rights;
     let seen = look(element, rights.limit);
-    match failed(fates) {
-        Cause::Absent => goes_on(c, kind, next, fates, seen),
-        Cause::Value(n) => clears(c, n, fates, seen),
+    if failed(fates) {
+        clears(c, fates, seen)
+    } else {
+        goes_on(c, kind, next, fates, seen)
     }
 }
 

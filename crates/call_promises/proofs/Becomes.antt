@@ -7,7 +7,6 @@ use mathlib.Core.Path.{_≡_, refl, sym, _∙_, ap, subst}
 use native.Mathlib.Omega.{arith}
 use borrow.Author.Tests.{leb-true, leb-false, le-leb, lt-leb}
 use lib.Dec.{leb}
-use Rattle.cause.specs.declared.Cause.{Cause}
 use Rattle.rights.specs.declared.Rights.{Rights}
 use Rattle.rights.specs.declared.Service.{Service}
 use Rattle.rights.specs.Rights.{hasOf}
@@ -223,12 +222,12 @@ module _ (c : Call) (e : Event) (kind : Kind) (next : Phase) (f : Fates) where
       clears-one k g x d (on n s t u m) = absurd (n k g x)
       clears-one k g x d (clears y) = refl
 
-      answering-left : (seen : Seen) (x : Cause) → Outcome c e x → IsTheRecord (Answered c e next) (answeringOf c kind next f seen x .call)
+      answering-left : (seen : Seen) (x : Bool) → Outcome c e x → IsTheRecord (Answered c e next) (answeringOf c kind next f seen x .call)
       unfolding goesOnOf clearsOf answeredCallOf settlesOf inPhaseOf
-      answering-left seen Cause.Absent (sound n) =
+      answering-left seen false (sound n) =
           left-by goneOn refl
           (on n (settles-is c e Service.One one) (settles-is c e Service.Two two) (settles-is c e Service.Three three) (earned (third-of c e three))) (on-one n)
-      answering-left seen (Cause.Value n) (fails k g x b u) = left-by (turnedTo c Phase.Clearing) refl (clears x) (clears-one k g x)
+      answering-left seen true (fails k g x) = left-by (turnedTo c Phase.Clearing) refl (clears x) (clears-one k g x)
 
 wrapped : {P Q : Call → Type 0} {c : Call} → ((d : Call) → P d → Q d) → ((d : Call) → Q d → P d) → IsTheRecord P c → IsTheRecord Q c
 wrapped f g t d = ((λ h. f d (t d .0 h)), (λ q. t d .1 (g d q)))

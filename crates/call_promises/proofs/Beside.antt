@@ -253,7 +253,7 @@ fate-count : (m : Meters) (b : ℕ) (f : Fate) (side : Side) → meterOf (inForc
 fate-count m b Fate.Kept side = refl
 fate-count m b Fate.Accepted side = granted-count m b side
 fate-count m b Fate.Closed side = refl
-fate-count m b (Fate.Failed n) side = refl
+fate-count m b Fate.Failed side = refl
 
 module _ (two : Side → Bool) (m n : Meters) (b b' : ℕ) (hb : b ≤ b') where
   pub grants-poor : {three : Bool} → Poor two three m n → (force : Bool) → Poor two force (grantsOf m b) (grantsOf n b')
@@ -267,7 +267,7 @@ module _ (two : Side → Bool) (m n : Meters) (b b' : ℕ) (hb : b ≤ b') where
   fate-poor s Fate.Kept p = p
   fate-poor s Fate.Accepted p = grants-poor p true
   fate-poor s Fate.Closed p = λ side. record { credit = λ h. never h refl; count = p side .count }
-  fate-poor s (Fate.Failed x) p = λ side. record { credit = λ h. never h refl; count = p side .count }
+  fate-poor s Fate.Failed p = λ side. record { credit = λ h. never h refl; count = p side .count }
 
   -- what the answer to service 3 makes of the meters
   pub third-poor : (had : Bool) (s t : Standing) (a e : Asking) (g : Given) → Third had s t a e → Poor two (inForceOf s) m n → Poor two (inForceOf (settledOf s (decidedOf s g))) (inForceAfterOf m b (decidedOf s g)) (inForceAfterOf n b' (decidedOf t g))

@@ -4,7 +4,6 @@ use mathlib.Core.List.{List}
 use mathlib.Core.Bool.{Bool, true, false, _&&_, not}
 use mathlib.Core.Path.{_≡_, refl, sym, _∙_, ap, subst}
 use native.Mathlib.Omega.{arith}
-use Rattle.cause.specs.declared.Cause.{Cause}
 use Rattle.rights.specs.declared.Rights.{Rights}
 use Rattle.rights.specs.declared.Service.{Service}
 use Rattle.services.specs.declared.Answers.{Answers}
@@ -47,7 +46,7 @@ use Rattle.call_promises.specs.Numbers.{Allowed}
 use Rattle.call_promises.specs.Notes.{Bare, NotCarried, limitFor}
 use Rattle.call_promises.specs.Sends.{Hears, Flags, Rides, Intact, CountPays, CreditPays}
 use Rattle.call_promises.specs.Carriers.{Carries, setup, alerting, connect, counts, pays, disconnect, IsTheCarrier, CarriersExactly}
-use Rattle.call_promises.proofs.Notes.{setup-carries, disconnect-comes, failsOf}
+use Rattle.call_promises.proofs.Notes.{setup-carries, disconnect-comes}
 use Rattle.call_promises.proofs.Phases.{fresh, requested, connectable, talking, active, up, live}
 use Rattle.call_promises.proofs.Ranges.{unsound, reference-range, rights-range}
 use Rattle.call_promises.proofs.Seen.{Sight, absent, malformed, too-long, whole, sight}
@@ -119,10 +118,10 @@ setup-borne c n r q l =
     rides-borne c l _ (setup-own c l n r q) _ (rides c _ l (setupCarriesOf r q s) (sight l (r .limit)) (setup-carries c n r q s))
 
 -- where a required service fails the message does not go on, and its element does not
-answering-borne : (c : Call) (l : List ℕ) (e : Event) (kind : Kind) (next : Phase) (f : Fates) {seen : Seen} (x : Cause) → OwnMessage c l e → Sight l (limitFor c e) seen → Denies (not (failsOf x) && inForceOf (settledOf (c .standings .one) (f .one))) (NotCarried c e) → IsTheCarrier (Carries c l e) (answeringOf c kind next f seen x .dispatch .carrier)
+answering-borne : (c : Call) (l : List ℕ) (e : Event) (kind : Kind) (next : Phase) (f : Fates) {seen : Seen} (x : Bool) → OwnMessage c l e → Sight l (limitFor c e) seen → Denies (not x && inForceOf (settledOf (c .standings .one) (f .one))) (NotCarried c e) → IsTheCarrier (Carries c l e) (answeringOf c kind next f seen x .dispatch .carrier)
 unfolding goesOnOf clearsOf answeredCallOf settlesOf
-answering-borne c l e kind next f Cause.Absent o v d = rides-borne c l e o _ (rides c e l _ v (λ _. d))
-answering-borne c l e kind next f (Cause.Value n) (own g h) v d = borne-none refl (λ k x. h k x .1 .carried (d .so refl))
+answering-borne c l e kind next f false o v d = rides-borne c l e o _ (rides c e l _ v (λ _. d))
+answering-borne c l e kind next f true (own g h) v d = borne-none refl (λ k x. h k x .1 .carried (d .so refl))
 
 alerting-borne : (c : Call) (a : Answers) (l : List ℕ) → IsTheCarrier (Carries c l (Event.Alerting a)) (answeredOf c Kind.Alerting Phase.Alerting (alertingFatesOf (c .standings) a) l .dispatch .carrier)
 unfolding answeredOf

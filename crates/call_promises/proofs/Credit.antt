@@ -10,7 +10,6 @@ use lib.ListN.{length}
 use lib.Dec.{ltb, leb, eqb}
 use Rattle.flow_meter.specs.declared.Meter.{Meter}
 use Rattle.flow_meter.specs.declared.passage.Passage.{Passage}
-use Rattle.cause.specs.declared.Cause.{Cause}
 use Rattle.user_element.specs.declared.Seen.{Seen}
 use Rattle.rights.specs.declared.Rights.{Rights}
 use Rattle.services.specs.declared.Answers.{Answers}
@@ -33,7 +32,6 @@ use Rattle.flow_meter.specs.declared.call_meters.Meters.{Meters}
 use Rattle.call.specs.declared.reply.Reply.{Reply}
 use Rattle.flow_meter.specs.Meter.{emptyOf, grantedOf, refilledOf, tickedOf}
 use Rattle.flow_meter.specs.Passage.{countedOf, paidOf, markedOf, underThreeOf, passageOf, afterOf}
-use Rattle.cause.specs.Cause.{firstOf}
 use Rattle.user_element.specs.Element.{wellFormedOf, seenOf, wholeOf}
 use Rattle.services.specs.Standing.{inForceOf, noServices}
 use Rattle.setup_rules.specs.Requests.{askedStandingOf, firstStandingOf, lackingOf, standingsOf, lacksOf, setupPhaseOf}
@@ -183,15 +181,7 @@ setup-agrees reference r q seen =
     }
 
 -- ALERTING and CONNECT: an answer that is due
-abbrev failed : Cause → Bool
-failed Cause.Absent = false
-failed (Cause.Value n) = true
-
-first-failed : (x y : Cause) → failed (firstOf x y) ≡ (failed x || failed y)
-first-failed Cause.Absent y = refl
-first-failed (Cause.Value n) y = refl
-
-decided-failed : (s : Standing) (g : Given) → failed (failureOf (decidedOf s g)) ≡ fails (dueOf s) (accepts g)
+decided-failed : (s : Standing) (g : Given) → failureOf (decidedOf s g) ≡ fails (dueOf s) (accepts g)
 decided-failed Standing.Unasked g = refl
 decided-failed Standing.Preferred Given.Silent = refl
 decided-failed Standing.Preferred Given.Accepted = refl
@@ -201,10 +191,6 @@ decided-failed Standing.Required Given.Accepted = refl
 decided-failed Standing.Required Given.Rejected = refl
 decided-failed Standing.InForce g = refl
 decided-failed Standing.Closed g = refl
-
-fates-failed : (f : Fates) → failed (failedOf f) ≡ (failed (failureOf (f .one)) || (failed (failureOf (f .two)) || failed (failureOf (f .three))))
-unfolding failedOf
-fates-failed f = rw (first-failed (failureOf (f .one)) _, first-failed (failureOf (f .two)) _) refl
 
 decided-comes : (s : Standing) (g : Given) → inForceOf s ≡ false → comes (dueOf s) (accepts g) ≡ inForceOf (settledOf s (decidedOf s g))
 decided-comes Standing.Unasked g n = refl
@@ -341,16 +327,16 @@ module _ (c : Call) (q : Requests) (d : Due (c .phase) q (c .standings)) where
   kept : Agrees a c
   kept = record { requests = q; same = refl; due = d }
 
-  outcome-agrees : (kind : Kind) (next : Phase) (f : Fates) (seen : Seen) (x : Cause) (t : Bool) (b : Account) → t ≡ failed x → Agrees b (answeredCallOf c next f) → Agrees (cond t (clears a) b) (answeringOf c kind next f seen x .call)
+  outcome-agrees : (kind : Kind) (next : Phase) (f : Fates) (seen : Seen) (x : Bool) (t : Bool) (b : Account) → t ≡ x → Agrees b (answeredCallOf c next f) → Agrees (cond t (clears a) b) (answeringOf c kind next f seen x .call)
   unfolding goesOnOf clearsOf inPhaseOf
-  outcome-agrees kind next f seen Cause.Absent t b e g = rw e g
-  outcome-agrees kind next f seen (Cause.Value n) t b e g =
+  outcome-agrees kind next f seen false t b e g = rw e g
+  outcome-agrees kind next f seen true t b e g =
       rw e (record { requests = q; same = refl; due = not-due Phase.Clearing q _ refl refl })
 
-  alerts-failed : (g : Answers) → requestedOf (c .phase) ≡ true → (fails (q .one) (accepts (g .one)) || fails (q .two) (accepts (g .two))) ≡ failed (failedOf (alertingFatesOf (c .standings) g))
-  unfolding alertingFatesOf
+  alerts-failed : (g : Answers) → requestedOf (c .phase) ≡ true → (fails (q .one) (accepts (g .one)) || fails (q .two) (accepts (g .two))) ≡ failedOf (alertingFatesOf (c .standings) g)
+  unfolding alertingFatesOf failedOf
   alerts-failed g h =
-      rw (fates-failed (alertingFatesOf (c .standings) g), decided-failed (c .standings .one) (g .one), decided-failed (c .standings .two) (g .two), d .one h, d .two h, or-no) refl
+      rw (decided-failed (c .standings .one) (g .one), decided-failed (c .standings .two) (g .two), d .one h, d .two h, or-no) refl
 
   alerts-agrees : (g : Answers) (l : List ℕ) → requestedOf (c .phase) ≡ true → Agrees (alerts a g) (answeredOf c Kind.Alerting Phase.Alerting (alertingFatesOf (c .standings) g) l .call)
   unfolding answeredOf alertingFatesOf answeredCallOf settlesOf
@@ -369,13 +355,12 @@ module _ (c : Call) (q : Requests) (d : Due (c .phase) q (c .standings)) where
             };
       })
 
-  connects-failed : (g : Answers) (b : Bool) → requestedOf (c .phase) ≡ b → connectableOf (c .phase) ≡ true → ((b && (fails (q .one) (accepts (g .one)) || fails (q .two) false)) || fails (q .three) (accepts (g .three))) ≡ failed (failedOf (connectFatesOf (not b) (c .standings) g))
-  unfolding connectFatesOf
+  connects-failed : (g : Answers) (b : Bool) → requestedOf (c .phase) ≡ b → connectableOf (c .phase) ≡ true → ((b && (fails (q .one) (accepts (g .one)) || fails (q .two) false)) || fails (q .three) (accepts (g .three))) ≡ failedOf (connectFatesOf (not b) (c .standings) g)
+  unfolding connectFatesOf failedOf
   connects-failed g true e h =
-      rw (fates-failed (connectFatesOf false (c .standings) g), decided-failed (c .standings .one) (g .one), decided-failed (c .standings .two) Given.Silent, decided-failed (c .standings .three) (g .three), d .one e, d .two e, d .three h)
-      (or-or (fails (dueOf (c .standings .one)) (accepts (g .one))) (fails (dueOf (c .standings .two)) false) (fails (dueOf (c .standings .three)) (accepts (g .three))))
+      rw (decided-failed (c .standings .one) (g .one), decided-failed (c .standings .two) Given.Silent, decided-failed (c .standings .three) (g .three), d .one e, d .two e, d .three h) refl
   connects-failed g false e h =
-      rw (fates-failed (connectFatesOf true (c .standings) g), decided-failed (c .standings .three) (g .three), d .three h) refl
+      rw (decided-failed (c .standings .three) (g .three), d .three h) refl
 
   connects-agrees : (g : Answers) (l : List ℕ) → connectableOf (c .phase) ≡ true → Agrees (connects a g) (answeredOf c Kind.Connect Phase.Active (connectFatesOf (not (requestedOf (c .phase))) (c .standings) g) l .call)
   unfolding answeredOf connectFatesOf answeredCallOf settlesOf

@@ -5,7 +5,6 @@ use mathlib.Core.Bool.{Bool, true, false, cond, _||_, not}
 use mathlib.Core.Logic.{_⊎_, inl, inr, ⊎-elim}
 use mathlib.Core.Path.{_≡_, refl}
 use native.Mathlib.Omega.{arith}
-use Rattle.cause.specs.declared.Cause.{Cause}
 use Rattle.user_element.specs.declared.Seen.{Seen}
 use Rattle.rights.specs.declared.Rights.{Rights}
 use Rattle.rights.specs.declared.Service.{Service}
@@ -188,14 +187,14 @@ decided : (s : Standing) (g : Given) {A : Type 0} → (g ≡ Given.Accepted → 
 decided s g f = record { stands = decided-stands s g; comes = λ i. ⊎-elim (λ x. inl x) (λ x. inr (f x)) (decided-comes s g i) }
 
 module _ (c : Call) (k : Service) (e : Event) (l : List ℕ) (kind : Kind) (next : Phase) (f : Fates) (a : Answered (standingFor (c .standings) k) (fateFor f k) (Accepts k e l)) where
-  outcome-traces : (seen : Seen) (x : Cause) → TracesOf c k e l (answeringOf c kind next f seen x)
+  outcome-traces : (seen : Seen) (x : Bool) → TracesOf c k e l (answeringOf c kind next f seen x)
   unfolding goesOnOf clearsOf inPhaseOf answeredCallOf
-  outcome-traces seen Cause.Absent =
+  outcome-traces seen false =
       record {
         asked = λ w. inl (⊎-elim (λ x. inl (a .stands (rw (settled-for c next f k) at x))) (λ x. inr x) w, refl);
         came = λ i. ⊎-elim (λ x. inl x) (λ x. inr (refl, x)) (a .comes (rw (settled-for c next f k) at i));
       }
-  outcome-traces seen (Cause.Value n) = same c k e l _ _ refl refl refl
+  outcome-traces seen true = same c k e l _ _ refl refl refl
 
   answered-traces : TracesOf c k e l (answeredOf c kind next f l)
   unfolding answeredOf

@@ -160,15 +160,15 @@ setup-passes c reference rights q l =
 
 -- ALERTING and CONNECT
 module _ (c : Call) (e : Event) (l : List ℕ) (kind : Kind) (next : Phase) (f : Fates) where
-  outcome-passes : (x : Cause) → limitFor c e ≡ c .rights .limit → Goes e Side.Calling kind false → ((d : Call) → d .phase ≡ next → InForce (d .standings .one) → Under c l d e) → Passes c e l (answeringOf c kind next f (seenOf l (c .rights .limit)) x)
+  outcome-passes : (x : Bool) → limitFor c e ≡ c .rights .limit → Goes e Side.Calling kind false → ((d : Call) → d .phase ≡ next → InForce (d .standings .one) → Under c l d e) → Passes c e l (answeringOf c kind next f (seenOf l (c .rights .limit)) x)
   unfolding goesOnOf clearsOf answeredCallOf bareOf sayingOf
-  outcome-passes Cause.Absent k g u =
+  outcome-passes false k g u =
       record {
         to = Side.Calling;
         on = rw k (saying-way e _ l (c .rights .limit) kind _ _ _ g (λ _ _ _ h. u _ refl (in-force _ .so h)));
         back = tt;
       }
-  outcome-passes (Cause.Value n) k g u =
+  outcome-passes true k g u =
       record {
         to = Side.Calling;
         on = plain refl (λ o n. never (unnoted-so l _ false (sight l (c .rights .limit)) (o .1) (n .1) .1) refl);

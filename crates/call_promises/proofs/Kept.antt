@@ -7,7 +7,6 @@ use native.Mathlib.Omega.{arith}
 use borrow.Author.Tests.{leb-true, ltb-true}
 use lib.Dec.{ltb, leb}
 use Rattle.flow_meter.specs.declared.Meter.{Meter}
-use Rattle.cause.specs.declared.Cause.{Cause}
 use Rattle.user_element.specs.declared.Seen.{Seen}
 use Rattle.rights.specs.declared.Rights.{Rights}
 use Rattle.answering_rules.specs.declared.Fate.{Fate}
@@ -96,7 +95,7 @@ fate-in : (b : ℕ) (m : Meters) (f : Fate) → MetersIn b m → MetersIn b (inF
 fate-in b m Fate.Kept i = i
 fate-in b m Fate.Accepted i = grants-in b m i
 fate-in b m Fate.Closed i = i
-fate-in b m (Fate.Failed n) i = i
+fate-in b m Fate.Failed i = i
 
 what-in : (b : ℕ) (m : Meters) (w : What) → MetersIn b m → MetersIn b (facilityMetersOf m b w)
 what-in b m What.Preferred i = i
@@ -127,10 +126,10 @@ module _ (c : Call) where
   pub same : Follows c c
   same = record { reference = refl; rights = refl; meters = λ m. m }
 
-  outcome-in : (kind : Kind) (next : Phase) (f : Fates) (seen : Seen) (x : Cause) → Follows c (answeringOf c kind next f seen x .call)
+  outcome-in : (kind : Kind) (next : Phase) (f : Fates) (seen : Seen) (x : Bool) → Follows c (answeringOf c kind next f seen x .call)
   unfolding goesOnOf clearsOf answeredCallOf inPhaseOf
-  outcome-in kind next f seen Cause.Absent = record { reference = refl; rights = refl; meters = fate-in _ _ (f .three) }
-  outcome-in kind next f seen (Cause.Value n) = record { reference = refl; rights = refl; meters = λ m. m }
+  outcome-in kind next f seen false = record { reference = refl; rights = refl; meters = fate-in _ _ (f .three) }
+  outcome-in kind next f seen true = record { reference = refl; rights = refl; meters = λ m. m }
 
   pub answered-in : (kind : Kind) (next : Phase) (f : Fates) (l : List ℕ) → Follows c (answeredOf c kind next f l .call)
   unfolding answeredOf

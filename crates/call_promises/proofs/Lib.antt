@@ -1,4 +1,3 @@
-pub mod Failing
 pub mod Kept
 pub mod Phases
 pub mod Ranges
@@ -17,6 +16,7 @@ pub mod MoreRights
 pub mod Required
 pub mod Parts
 pub mod Sends
+pub mod Causes
 pub mod Carriers
 pub mod Becomes
 pub mod LentMeter

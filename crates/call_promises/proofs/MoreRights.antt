@@ -6,7 +6,6 @@ use mathlib.Core.Logic.{inl, inr, ⊎-elim}
 use mathlib.Core.Path.{_≡_, refl, sym, ap, _∙_}
 use native.Mathlib.Omega.{arith}
 use Rattle.flow_meter.specs.declared.Meter.{Meter}
-use Rattle.cause.specs.declared.Cause.{Cause}
 use Rattle.user_element.specs.declared.Note.{Note}
 use Rattle.user_element.specs.declared.Seen.{Seen}
 use Rattle.rights.specs.declared.Rights.{Rights}
@@ -531,15 +530,15 @@ module _ (c d : Call) (u : upOf (c .phase) ≡ true) (b : Below c d) where
       replies side _ _ _ _ _ _ _ _ _ _ _ _ (facility-stage side what (b .three)) (λ x. never x (about _ _)) (λ x. never x (about _ _))
 
   -- ALERTING and CONNECT
-  outcome : (kind : Kind) (next : Phase) (f f' : Fates) (seen : Seen) (x : Cause) → upOf next ≡ true → Below (answeredCallOf c next f) (answeredCallOf d next f') → Both (answeringOf c kind next f seen x) (answeringOf d kind next f' seen x)
+  outcome : (kind : Kind) (next : Phase) (f f' : Fates) (seen : Seen) (x : Bool) → upOf next ≡ true → Below (answeredCallOf c next f) (answeredCallOf d next f') → Both (answeringOf c kind next f seen x) (answeringOf d kind next f' seen x)
   unfolding goesOnOf clearsOf answeredCallOf inPhaseOf sayingOf bareOf goesOutOf
-  outcome kind next f f' seen Cause.Absent v k =
+  outcome kind next f f' seen false v k =
       record {
         stage = going v k;
         calling = λ x. and-right (wholeOf seen) _ _ (force-up _ _ (k .one)) x;
         called = λ x. x;
       }
-  outcome kind next f f' seen (Cause.Value n) v k =
+  outcome kind next f f' seen true v k =
       from-silent _ _ (record { phase = refl; calling = refl; called = refl })
 
   answered : (kind : Kind) (next : Phase) (f f' : Fates) (l : List ℕ) → upOf next ≡ true → failedOf f' ≡ failedOf f → Below (answeredCallOf c next f) (answeredCallOf d next f') → Both (answeredOf c kind next f l) (answeredOf d kind next f' l)

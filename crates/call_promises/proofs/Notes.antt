@@ -1,7 +1,7 @@
 -- The note is that of the first row that applies.
 use Prim.Native.Nat.{ℕ}
 use mathlib.Core.List.{List}
-use mathlib.Core.Bool.{Bool, true, false, cond, _&&_, _||_, not, true≢false}
+use mathlib.Core.Bool.{Bool, true, false, cond, _&&_, not, true≢false}
 use mathlib.Core.Logic.{_⊎_, inl, inr, ⊎-elim}
 use mathlib.Core.Path.{_≡_, refl, _∙_}
 use native.Mathlib.Omega.{arith}
@@ -10,7 +10,6 @@ use lib.Dec.{eqb}
 use Rattle.logic.specs.First.{First}
 use Rattle.logic.proofs.Only.{only, exactly}
 use Rattle.flow_meter.specs.declared.passage.Passage.{Passage}
-use Rattle.cause.specs.declared.Cause.{Cause}
 use Rattle.user_element.specs.declared.Note.{Note}
 use Rattle.user_element.specs.declared.Seen.{Seen}
 use Rattle.rights.specs.declared.Rights.{Rights}
@@ -29,7 +28,6 @@ use Rattle.sent.specs.declared.side.Side.{Side}
 use Rattle.call.specs.declared.Call.{Call}
 use Rattle.event.specs.declared.Event.{Event}
 use Rattle.call.specs.declared.reply.Reply.{Reply}
-use Rattle.cause.specs.Cause.{firstOf}
 use Rattle.user_element.specs.Element.{noteNumberOf, seenOf, notedOf}
 use Rattle.rights.specs.Rights.{hasOf}
 use Rattle.services.specs.Standing.{inForceOf, awaitsOf, remainsOf}
@@ -134,19 +132,7 @@ unfolding setupCarriesOf standingsOf
 setup-carries c reference r q s e = rw (e, remains) (stops _ _ (lacks r q) (has r Service.One))
 
 -- ALERTING and CONNECT
-abbrev pub failsOf : Cause → Bool
-failsOf Cause.Absent = false
-failsOf (Cause.Value n) = true
-
-first-fails : (a b : Cause) → failsOf (firstOf a b) ≡ (failsOf a || failsOf b)
-first-fails Cause.Absent b = refl
-first-fails (Cause.Value n) b = refl
-
-pub any-fails : (f : Fates) → failsOf (failedOf f) ≡ (failsOf (failureOf (f .one)) || (failsOf (failureOf (f .two)) || failsOf (failureOf (f .three))))
-unfolding failedOf
-any-fails f = rw (first-fails, first-fails) refl
-
-fails-so : (s : Standing) (g : Given) → failsOf (failureOf (decidedOf s g)) ≡ true → Fails s g
+fails-so : (s : Standing) (g : Given) → failureOf (decidedOf s g) ≡ true → Fails s g
 fails-so Standing.Unasked g h = never h refl
 fails-so Standing.Preferred Given.Silent h = never h refl
 fails-so Standing.Preferred Given.Accepted h = never h refl
@@ -157,16 +143,16 @@ fails-so Standing.Required Given.Rejected h = (refl, λ e. let z : _≡_ {A = �
 fails-so Standing.InForce g h = never h refl
 fails-so Standing.Closed g h = never h refl
 
-required-fails : (g : Given) → (g ≡ Given.Accepted → ⊥) → failsOf (failureOf (decidedOf Standing.Required g)) ≡ true
+required-fails : (g : Given) → (g ≡ Given.Accepted → ⊥) → failureOf (decidedOf Standing.Required g) ≡ true
 required-fails Given.Silent n = refl
 required-fails Given.Accepted n = absurd (n refl)
 required-fails Given.Rejected n = refl
 
-fails : (s : Standing) (g : Given) → Decides (failsOf (failureOf (decidedOf s g))) (Fails s g)
+fails : (s : Standing) (g : Given) → Decides (failureOf (decidedOf s g)) (Fails s g)
 fails s g = record { so = fails-so s g; back = λ x. rw (x .0) (required-fails g (x .1)) }
 
 -- an answer counts where it is due
-due-fails : (due : Bool) {D : Type 0} (s : Standing) (g : Given) → Decides due D → Decides (failsOf (failureOf (cond (not due) Fate.Kept (decidedOf s g)))) (D × Fails s g)
+due-fails : (due : Bool) {D : Type 0} (s : Standing) (g : Given) → Decides due D → Decides (failureOf (cond (not due) Fate.Kept (decidedOf s g))) (D × Fails s g)
 due-fails true s g d = via (λ x. (d .so refl, x)) (λ x. x .1) (fails s g)
 due-fails false s g d = record { so = λ h. never h refl; back = λ x. d .back (x .0) }
 
@@ -198,42 +184,41 @@ due-comes false s g d = via (λ i. inl i) (⊎-elim (λ i. i) (λ x. never (d .b
 
 -- the note on an answering message
 unfoldable pub carriesOf : Standing → Fates → Bool
-carriesOf s f = not (failsOf (failedOf f)) && inForceOf (settledOf s (f .one))
+carriesOf s f = not (failedOf f) && inForceOf (settledOf s (f .one))
 
 module _ (c : Call) (kind : Kind) (next : Phase) (f : Fates) where
-  outcome-note : (seen : Seen) (x : Cause) → answeringOf c kind next f seen x .note ≡ notedOf seen (not (failsOf x) && inForceOf (settledOf (c .standings .one) (f .one)))
+  outcome-note : (seen : Seen) (x : Bool) → answeringOf c kind next f seen x .note ≡ notedOf seen (not x && inForceOf (settledOf (c .standings .one) (f .one)))
   unfolding goesOnOf clearsOf answeredCallOf settlesOf
-  outcome-note seen Cause.Absent = refl
-  outcome-note seen (Cause.Value n) = refl
+  outcome-note seen false = refl
+  outcome-note seen true = refl
 
   answered-note : (l : List ℕ) → answeredOf c kind next f l .note ≡ notedOf (seenOf l (c .rights .limit)) (carriesOf (c .standings .one) f)
   unfolding answeredOf carriesOf
   answered-note l = outcome-note _ (failedOf f)
 
 pub alerting-carries : (c : Call) (a : Answers) → Denies (carriesOf (c .standings .one) (alertingFatesOf (c .standings) a)) (NotCarried c (Event.Alerting a))
-unfolding carriesOf alertingFatesOf
+unfolding carriesOf alertingFatesOf failedOf
 alerting-carries c a =
-    rw any-fails
-    (stops _ _
-    (via (⊎-elim (λ x. inl x) (⊎-elim (λ x. inr x) (λ h. never h refl))) (⊎-elim (λ x. inl x) (λ x. inr (inl x)))
-    (either _ _ (fails (c .standings .one) (a .one)) (either _ _ (fails (c .standings .two) (a .two)) (as-is false))))
-    (due-comes true (c .standings .one) (a .one) (record { so = λ _. tt; back = λ _. refl })))
+    stops _ _
+    (via (⊎-elim (λ x. x) (λ h. never h refl)) (λ x. inl x)
+    (either _ _ (either _ _ (fails (c .standings .one) (a .one)) (fails (c .standings .two) (a .two))) (as-is false)))
+    (due-comes true (c .standings .one) (a .one) (record { so = λ _. tt; back = λ _. refl }))
 
 unanswered : Given.Silent ≡ Given.Accepted → ⊥
 unanswered e = let z : _≡_ {A = ℕ} 0 1 = cc in omega arith
 
 pub connect-carries : (c : Call) (a : Answers) → Denies (carriesOf (c .standings .one) (connectFatesOf (not (requestedOf (c .phase))) (c .standings) a)) (NotCarried c (Event.Connect a))
-unfolding carriesOf connectFatesOf
+unfolding carriesOf connectFatesOf failedOf
 connect-carries c a =
     let r = requested (c .phase) in
-    rw any-fails
-    (stops _ _
+    stops _ _
     (via
-    (⊎-elim (λ x. inl (x .0, inl (x .1))) (⊎-elim (λ x. inl (x .0, inr (x .1 .0))) (λ x. inr x)))
-    (⊎-elim (λ x. ⊎-elim (λ y. inl (x .0, y)) (λ y. inr (inl (x .0, (y, unanswered)))) (x .1)) (λ x. inr (inr x)))
-    (either _ _ (due-fails _ (c .standings .one) (a .one) r)
-    (either _ _ (due-fails _ (c .standings .two) Given.Silent r) (fails (c .standings .three) (a .three)))))
-    (due-comes _ (c .standings .one) (a .one) r))
+    (⊎-elim (⊎-elim (λ x. inl (x .0, inl (x .1))) (λ x. inl (x .0, inr (x .1 .0)))) (λ x. inr x))
+    (⊎-elim (λ x. inl (⊎-elim (λ y. inl (x .0, y)) (λ y. inr (x .0, (y, unanswered))) (x .1))) (λ x. inr x))
+    (either _ _
+    (either _ _ (due-fails _ (c .standings .one) (a .one) r) (due-fails _ (c .standings .two) Given.Silent r))
+    (fails (c .standings .three) (a .three))))
+    (due-comes _ (c .standings .one) (a .one) r)
 
 -- DISCONNECT
 open-so : (s : Standing) → inForceOf (cond (awaitsOf s) Standing.InForce s) ≡ true → InForce s ⊎ Open s

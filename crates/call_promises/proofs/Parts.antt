@@ -4,13 +4,11 @@ use Prim.Native.Nat.{ℕ, _<_, _≤_}
 use mathlib.Core.List.{List}
 use mathlib.Core.Bool.{Bool, true, false, cond, _&&_, _||_, not}
 use mathlib.Core.Logic.{_⊎_, inl, inr, ⊎-elim}
-use mathlib.Core.Path.{_≡_, refl, sym, _∙_, ap, subst}
+use mathlib.Core.Path.{_≡_, refl, sym, _∙_, ap}
 use native.Mathlib.Omega.{arith}
 use borrow.Author.Tests.{ltb-true, ltb-false}
 use lib.Dec.{ltb, eqb}
 use lib.ListN.{length}
-use Rattle.cause.specs.declared.Cause.{Cause}
-use Rattle.cause.specs.Cause.{firstOf}
 use Rattle.rights.specs.declared.Rights.{Rights}
 use Rattle.rights.specs.declared.Service.{Service}
 use Rattle.services.specs.declared.Answers.{Answers}
@@ -32,7 +30,7 @@ use Rattle.facility_rules.specs.Messages.{notGrantedOf}
 use Rattle.answering_rules.specs.declared.Fate.{Fate}
 use Rattle.answering_rules.specs.declared.Fates.{Fates}
 use Rattle.answering_rules.specs.Fates.{decidedOf, alertingFatesOf, connectFatesOf}
-use Rattle.answering_rules.specs.Effects.{settledOf, toldOf, declinedOf, failureOf, failedOf, inForceAfterOf}
+use Rattle.answering_rules.specs.Effects.{settledOf, toldOf, declinedOf, failureOf, inForceAfterOf}
 use Rattle.flow_meter.specs.declared.Meter.{Meter}
 use Rattle.flow_meter.specs.declared.passage.Passage.{Passage}
 use Rattle.flow_meter.specs.Passage.{countedOf, paidOf, markedOf, underThreeOf, passageOf}
@@ -51,7 +49,7 @@ use Rattle.call_promises.specs.Ranges.{Unsound}
 use Rattle.call_promises.specs.Numbers.{Allowed, OutOfRange, ServesTwo, ServesThree, AskedRequired, NotGranted, NotOpen, meterFrom}
 use Rattle.call_promises.specs.Notes.{Open, NotCarried, limitFor}
 use Rattle.call_promises.specs.Services.{standingFor}
-use Rattle.call_promises.specs.Sends.{Hears, Flags, Rides, Due, ringing, third, first, second, Counts, Settles, accepted, declined, kept, FailsAt, TurnedDown, turned, unturned, Below, one-two, one-three, two-three, LowestFailed, Blames, rejected, unanswered, Intact, CountPays, CreditServes, CreditPays, FirstDropped, Agreed}
+use Rattle.call_promises.specs.Sends.{Hears, Flags, Rides, Due, ringing, third, first, second, Counts, Settles, accepted, declined, kept, FailsAt, TurnedDown, turned, unturned, Intact, CountPays, CreditServes, CreditPays, FirstDropped, Agreed}
 use Rattle.call_promises.proofs.Heard.{Bar, unsound, phase, range}
 use Rattle.call_promises.proofs.Conditions.{serves-two, serves-three}
 use Rattle.call_promises.proofs.Numbers.{say-rows}
@@ -113,15 +111,15 @@ pub data View (p : Phase) (e : Event) (k : Service) (s : Standing) : Fate → Ty
   idle : ((g : Given) → Due p e k g → ⊥) → View p e k s Fate.Kept
   asked : (g : Given) → Due p e k g → ((h : Given) → Due p e k h → g ≡ h) → View p e k s (decidedOf s g)
 
+pub not-three : Service.One ≡ Service.Three → ⊥
+not-three e = let z : _≡_ {A = ℕ} 0 1 = cc e in omega arith
+
+pub nor-three : Service.Two ≡ Service.Three → ⊥
+nor-three e = let z : _≡_ {A = ℕ} 0 1 = cc e in omega arith
+
 module _ (p : Phase) (s : Standings) (a : Answers) where
   same : (k : Service) (g h : Given) → Due p (Event.Alerting a) k g → Due p (Event.Alerting a) k h → g ≡ h
   same k g h (ringing n e) (ringing n′ e′) = sym e ∙ e′
-
-  not-three : Service.One ≡ Service.Three → ⊥
-  not-three e = let z : _≡_ {A = ℕ} 0 1 = cc e in omega arith
-
-  nor-three : Service.Two ≡ Service.Three → ⊥
-  nor-three e = let z : _≡_ {A = ℕ} 0 1 = cc e in omega arith
 
   pub alerting-one : View p (Event.Alerting a) Service.One (s .one) (alertingFatesOf s a .one)
   unfolding alertingFatesOf
@@ -180,7 +178,7 @@ opened s (inr e) = rw e refl
 -- an open request that is not accepted
 data Shut : Fate → Type 0 where
   closed : Shut Fate.Closed
-  failed : {n : ℕ} → Shut (Fate.Failed n)
+  failed : Shut Fate.Failed
 
 shut-by : (s : Standing) (g : Given) → Open s → (g ≡ Given.Accepted → ⊥) → Shut (decidedOf s g)
 shut-by s Given.Silent (inl e) n = rw e closed
@@ -206,13 +204,12 @@ data Decision (s : Standing) (g : Given) : Fate → Type 0 where
   stays : (Open s → ⊥) → Decision s g Fate.Kept
   grants : Open s → g ≡ Given.Accepted → Decision s g Fate.Accepted
   closes : s ≡ Standing.Preferred → (g ≡ Given.Accepted → ⊥) → Decision s g Fate.Closed
-  rejects : s ≡ Standing.Required → g ≡ Given.Rejected → Decision s g (Fate.Failed 29)
-  lacks : s ≡ Standing.Required → g ≡ Given.Silent → Decision s g (Fate.Failed 69)
+  fails : s ≡ Standing.Required → (g ≡ Given.Accepted → ⊥) → Decision s g Fate.Failed
 
 neither-open : (s : Standing) → (s ≡ Standing.Preferred → ⊥) → (s ≡ Standing.Required → ⊥) → Open s → ⊥
 neither-open s a b = ⊎-elim a b
 
-silence-no : Given.Silent ≡ Given.Accepted → ⊥
+pub silence-no : Given.Silent ≡ Given.Accepted → ⊥
 silence-no e = let z : _≡_ {A = ℕ} 0 1 = cc e in omega arith
 
 rejection-no : Given.Rejected ≡ Given.Accepted → ⊥
@@ -224,9 +221,9 @@ decision Standing.Unasked g =
 decision Standing.Preferred Given.Silent = closes refl silence-no
 decision Standing.Preferred Given.Accepted = grants (inl refl) refl
 decision Standing.Preferred Given.Rejected = closes refl rejection-no
-decision Standing.Required Given.Silent = lacks refl refl
+decision Standing.Required Given.Silent = fails refl silence-no
 decision Standing.Required Given.Accepted = grants (inr refl) refl
-decision Standing.Required Given.Rejected = rejects refl refl
+decision Standing.Required Given.Rejected = fails refl rejection-no
 decision Standing.InForce g =
     stays (neither-open _ (λ e. let z : _≡_ {A = ℕ} 0 1 = cc e in omega arith) (λ e. let z : _≡_ {A = ℕ} 0 1 = cc e in omega arith))
 decision Standing.Closed g =
@@ -241,8 +238,7 @@ module _ (c : Call) (e : Event) (k : Service) where
   settles-due g d u (stays n) = kept (λ h x. n (x .asked))
   settles-due g d u (grants o t) = accepted (record { due = rw t at d; asked = o })
   settles-due g d u (closes s n) = declined (record { due = d; asked = inl s }) n
-  settles-due g d u (rejects s t) = declined (record { due = d; asked = inr s }) (λ x. rejection-no (sym t ∙ x))
-  settles-due g d u (lacks s t) = declined (record { due = d; asked = inr s }) (λ x. silence-no (sym t ∙ x))
+  settles-due g d u (fails s n) = declined (record { due = d; asked = inr s }) n
 
   pub settles-is : {f : Fate} → View (c .phase) e k now f → Settles c e k (settledOf now f) (toldOf f)
   settles-is (idle n) = kept (λ g x. n g (x .due))
@@ -265,8 +261,7 @@ module _ (c : Call) (e : Event) (k : Service) where
   turned-due g d u (stays n) = unturned (λ h x. absurd (n (x .asked)))
   turned-due g d u (grants o t) = unturned (λ h x. sym (u h (x .due)) ∙ t)
   turned-due g d u (closes s n) = turned (record { due = d; asked = inl s }) n
-  turned-due g d u (rejects s t) = turned (record { due = d; asked = inr s }) (λ x. rejection-no (sym t ∙ x))
-  turned-due g d u (lacks s t) = turned (record { due = d; asked = inr s }) (λ x. silence-no (sym t ∙ x))
+  turned-due g d u (fails s n) = turned (record { due = d; asked = inr s }) n
 
   pub turned-is : {f : Fate} → View (c .phase) e k now f → TurnedDown c e k (declinedOf f)
   turned-is (idle n) = unturned (λ g x. absurd (n g (x .due)))
@@ -276,8 +271,7 @@ module _ (c : Call) (e : Event) (k : Service) where
   turned-nothing g d (stays n) m = refl
   turned-nothing g d (grants o t) m = refl
   turned-nothing g d (closes s n) m = absurd (n (m g (record { due = d; asked = inl s })))
-  turned-nothing g d (rejects s t) m = absurd (rejection-no (sym t ∙ m g (record { due = d; asked = inr s })))
-  turned-nothing g d (lacks s t) m = absurd (silence-no (sym t ∙ m g (record { due = d; asked = inr s })))
+  turned-nothing g d (fails s n) m = absurd (n (m g (record { due = d; asked = inr s })))
 
   pub turned-one : {f : Fate} {x : Said} → View (c .phase) e k now f → TurnedDown c e k x → declinedOf f ≡ x
   turned-one (idle n) (turned a m) = absurd (n _ (a .due))
@@ -285,18 +279,16 @@ module _ (c : Call) (e : Event) (k : Service) where
   turned-one (asked g d u) (turned a m) = sym (shut-declined (shut-by now g (a .asked) (λ w. m (sym (u _ (a .due)) ∙ w))))
   turned-one (asked g d u) (unturned m) = turned-nothing g d (decision now g) m
 
-  -- whether it fails, and with which cause
-  pub data Failure : Cause → Type 0 where
-    none : ((g : Given) → FailsAt c e k g → ⊥) → Failure Cause.Absent
-    explicit : FailsAt c e k Given.Rejected → ((g : Given) → FailsAt c e k g → g ≡ Given.Rejected) → Failure (Cause.Value 29)
-    mute : FailsAt c e k Given.Silent → ((g : Given) → FailsAt c e k g → g ≡ Given.Silent) → Failure (Cause.Value 69)
+  -- whether it fails
+  pub data Failure : Bool → Type 0 where
+    none : ((g : Given) → FailsAt c e k g → ⊥) → Failure false
+    one : (g : Given) → FailsAt c e k g → Failure true
 
   failure-due : (g : Given) → Due (c .phase) e k g → ((h : Given) → Due (c .phase) e k h → g ≡ h) → {f : Fate} → Decision now g f → Failure (failureOf f)
   failure-due g d u (stays n) = none (λ h x. n (inr (x .required)))
   failure-due g d u (grants o t) = none (λ h x. x .refused (sym (u h (x .due)) ∙ t))
   failure-due g d u (closes s n) = none (λ h x. let z : _≡_ {A = ℕ} 0 1 = cc (s, x .required) in omega arith)
-  failure-due g d u (rejects s t) = explicit (record { due = rw t at d; required = s; refused = rejection-no }) (λ h x. sym (u h (x .due)) ∙ t)
-  failure-due g d u (lacks s t) = mute (record { due = rw t at d; required = s; refused = silence-no }) (λ h x. sym (u h (x .due)) ∙ t)
+  failure-due g d u (fails s n) = one g (record { due = d; required = s; refused = n })
 
   pub failure : {f : Fate} → View (c .phase) e k now f → Failure (failureOf f)
   failure (idle n) = none (λ g x. n g (x .due))
@@ -312,81 +304,30 @@ module _ (c : Call) (e : Event) where
   third-due g d u (stays n) = three-kept (λ x. n (x .asked)) refl
   third-due g d u (grants o t) = three-accepted (record { due = rw t at d; asked = o })
   third-due g d u (closes s n) = three-kept (λ x. n (u _ (x .due))) refl
-  third-due g d u (rejects s t) = three-kept (λ x. rejection-no (sym t ∙ u _ (x .due))) refl
-  third-due g d u (lacks s t) = three-kept (λ x. silence-no (sym t ∙ u _ (x .due))) refl
+  third-due g d u (fails s n) = three-kept (λ x. n (u _ (x .due))) refl
 
   pub third-of : {f : Fate} → View (c .phase) e Service.Three (c .standings .three) f → Third c e f
   third-of (idle n) = three-kept (λ x. n _ (x .due)) refl
   third-of (asked g d u) = third-due g d u (decision (c .standings .three) g)
 
--- the lowest failed required service
-pub data Outcome (c : Call) (e : Event) : Cause → Type 0 where
-  sound : ((k : Service) (g : Given) → FailsAt c e k g → ⊥) → Outcome c e Cause.Absent
-  fails : {n : ℕ} (k : Service) (g : Given) → FailsAt c e k g → Blames c e n → ((m : ℕ) → Blames c e m → n ≡ m) → Outcome c e (Cause.Value n)
+-- whether a required service fails
+pub data Outcome (c : Call) (e : Event) : Bool → Type 0 where
+  sound : ((k : Service) (g : Given) → FailsAt c e k g → ⊥) → Outcome c e false
+  fails : (k : Service) (g : Given) → FailsAt c e k g → Outcome c e true
 
 module _ (c : Call) (e : Event) where
-  -- a service fails below another, or none does
-  abbrev Free : Service → Type 0
-  Free k = (j : Service) (h : Given) → Below j k → FailsAt c e j h → ⊥
-
-  under-one : Free Service.One
-  under-one j h b = elim b [ ]
-
-  -- the cause of a lowest failure is one only
-  one-cause : (k : Service) (g : Given) → FailsAt c e k g → Free k → (j : Service) (h : Given) → FailsAt c e j h → Free j → k ≡ j
-  one-cause Service.One g x f Service.One h y i = refl
-  one-cause Service.One g x f Service.Two h y i = absurd (i Service.One g one-two x)
-  one-cause Service.One g x f Service.Three h y i = absurd (i Service.One g one-three x)
-  one-cause Service.Two g x f Service.One h y i = absurd (f Service.One h one-two y)
-  one-cause Service.Two g x f Service.Two h y i = refl
-  one-cause Service.Two g x f Service.Three h y i = absurd (i Service.Two g two-three x)
-  one-cause Service.Three g x f Service.One h y i = absurd (f Service.One h one-three y)
-  one-cause Service.Three g x f Service.Two h y i = absurd (f Service.Two h two-three y)
-  one-cause Service.Three g x f Service.Three h y i = refl
-
-  mixed : Given.Silent ≡ Given.Rejected → ⊥
-  mixed x = let z : _≡_ {A = ℕ} 0 1 = cc x in omega arith
-
-  -- the service of a lowest failure is one only, and so is its cause
-  moved : (k : Service) (g : Given) → FailsAt c e k g → Free k → (j : Service) (h : Given) → LowestFailed c e j h → FailsAt c e k h
-  moved k g x f j h l = subst (λ i. FailsAt c e i h) (sym (one-cause k g x f j h (l .fails) (l .lower))) (l .fails)
-
-  only-29 : (k : Service) → FailsAt c e k Given.Rejected → Free k → ((g : Given) → FailsAt c e k g → g ≡ Given.Rejected) → (m : ℕ) → Blames c e m → 29 ≡ m
-  only-29 k x f u m (rejected l) = refl
-  only-29 k x f u m (unanswered l) = absurd (mixed (u Given.Silent (moved k _ x f _ _ l)))
-
-  only-69 : (k : Service) → FailsAt c e k Given.Silent → Free k → ((g : Given) → FailsAt c e k g → g ≡ Given.Silent) → (m : ℕ) → Blames c e m → 69 ≡ m
-  only-69 k x f u m (rejected l) = absurd (mixed (sym (u Given.Rejected (moved k _ x f _ _ l))))
-  only-69 k x f u m (unanswered l) = refl
-
   abbrev Spared : Service → Type 0
   Spared k = (g : Given) → FailsAt c e k g → ⊥
-
-  under-two : Spared Service.One → Free Service.Two
-  under-two n j h one-two = n h
-
-  under-three : Spared Service.One → Spared Service.Two → Free Service.Three
-  under-three n m j h one-three = n h
-  under-three n m j h two-three = m h
 
   all-spared : Spared Service.One → Spared Service.Two → Spared Service.Three → (k : Service) → Spared k
   all-spared n m o Service.One = n
   all-spared n m o Service.Two = m
   all-spared n m o Service.Three = o
 
-  blames-29 : (k : Service) → Free k → FailsAt c e k Given.Rejected → ((g : Given) → FailsAt c e k g → g ≡ Given.Rejected) → Outcome c e (Cause.Value 29)
-  blames-29 k f x u = fails k Given.Rejected x (rejected (record { fails = x; lower = f })) (only-29 k x f u)
-
-  blames-69 : (k : Service) → Free k → FailsAt c e k Given.Silent → ((g : Given) → FailsAt c e k g → g ≡ Given.Silent) → Outcome c e (Cause.Value 69)
-  blames-69 k f x u = fails k Given.Silent x (unanswered (record { fails = x; lower = f })) (only-69 k x f u)
-
-  pub outcome : {x y z : Cause} → Failure c e Service.One x → Failure c e Service.Two y → Failure c e Service.Three z → Outcome c e (firstOf x (firstOf y z))
-  outcome (explicit x u) q r = blames-29 Service.One under-one x u
-  outcome (mute x u) q r = blames-69 Service.One under-one x u
-  outcome (none n) (explicit x u) r = blames-29 Service.Two (under-two n) x u
-  outcome (none n) (mute x u) r = blames-69 Service.Two (under-two n) x u
-  outcome (none n) (none m) (explicit x u) = blames-29 Service.Three (under-three n m) x u
-  outcome (none n) (none m) (mute x u) = blames-69 Service.Three (under-three n m) x u
+  pub outcome : {x y z : Bool} → Failure c e Service.One x → Failure c e Service.Two y → Failure c e Service.Three z → Outcome c e ((x || y) || z)
+  outcome (one g x) q r = fails Service.One g x
+  outcome (none n) (one g x) r = fails Service.Two g x
+  outcome (none n) (none m) (one g x) = fails Service.Three g x
   outcome (none n) (none m) (none o) = sound (all-spared n m o)
 
 -- ---- what a message meets in its meter

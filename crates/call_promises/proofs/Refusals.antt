@@ -8,7 +8,6 @@ use native.Mathlib.Omega.{arith}
 use borrow.Author.Tests.{ltb-false}
 use lib.Dec.{ltb}
 use Rattle.flow_meter.specs.declared.passage.Passage.{Passage}
-use Rattle.cause.specs.declared.Cause.{Cause}
 use Rattle.user_element.specs.declared.Note.{Note}
 use Rattle.user_element.specs.declared.Seen.{Seen}
 use Rattle.answering_rules.specs.declared.Fates.{Fates}
@@ -68,10 +67,10 @@ module _ (c : Call) (e : Event) where
   heard-fair a g r (through _ _ _) f = f
   heard-fair a g r (barred x) f = bar-fair x
 
-outcome-taken : (c : Call) (kind : Kind) (next : Phase) (f : Fates) (seen : Seen) (x : Cause) → answeringOf c kind next f seen x .answer ≡ Answer.Taken
+outcome-taken : (c : Call) (kind : Kind) (next : Phase) (f : Fates) (seen : Seen) (x : Bool) → answeringOf c kind next f seen x .answer ≡ Answer.Taken
 unfolding goesOnOf clearsOf
-outcome-taken c kind next f seen Cause.Absent = refl
-outcome-taken c kind next f seen (Cause.Value n) = refl
+outcome-taken c kind next f seen false = refl
+outcome-taken c kind next f seen true = refl
 
 pub answered-taken : (c : Call) (kind : Kind) (next : Phase) (f : Fates) (l : List ℕ) → answeredOf c kind next f l .answer ≡ Answer.Taken
 unfolding answeredOf

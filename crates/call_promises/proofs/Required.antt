@@ -5,7 +5,6 @@ use mathlib.Core.Bool.{Bool, true, false, _||_, not}
 use mathlib.Core.Logic.{inl, inr, ⊎-elim}
 use mathlib.Core.Path.{_≡_, refl, sym}
 use native.Mathlib.Omega.{arith}
-use Rattle.cause.specs.declared.Cause.{Cause}
 use Rattle.user_element.specs.declared.Seen.{Seen}
 use Rattle.rights.specs.declared.Rights.{Rights}
 use Rattle.rights.specs.declared.Service.{Service}
@@ -24,7 +23,6 @@ use Rattle.sent.specs.declared.side.Side.{Side}
 use Rattle.call.specs.declared.Call.{Call}
 use Rattle.event.specs.declared.Event.{Event}
 use Rattle.call.specs.declared.reply.Reply.{Reply}
-use Rattle.cause.specs.Cause.{firstOf}
 use Rattle.user_element.specs.Element.{wholeOf}
 use Rattle.rights.specs.Rights.{hasOf}
 use Rattle.setup_rules.specs.Requests.{askedStandingOf, firstStandingOf, standingsOf, lackingOf, lacksOf, setupPhaseOf}
@@ -119,32 +117,28 @@ settled-for c next f Service.One = refl
 settled-for c next f Service.Two = refl
 settled-for c next f Service.Three = refl
 
-first-absent : (a b : Cause) → firstOf a b ≡ Cause.Absent → (a ≡ Cause.Absent) × (b ≡ Cause.Absent)
-first-absent Cause.Absent b h = (refl, h)
-first-absent (Cause.Value n) b h = absurd (let z : _≡_ {A = ℕ} 0 1 = cc in omega arith)
-
-none-fails : (f : Fates) (k : Service) → failedOf f ≡ Cause.Absent → failureOf (fateFor f k) ≡ Cause.Absent
+none-fails : (f : Fates) (k : Service) → failedOf f ≡ false → failureOf (fateFor f k) ≡ false
 unfolding failedOf
-none-fails f Service.One h = first-absent _ _ h .0
-none-fails f Service.Two h = first-absent _ _ (first-absent (failureOf (f .one)) _ h .1) .0
-none-fails f Service.Three h = first-absent (failureOf (f .two)) _ (first-absent (failureOf (f .one)) _ h .1) .1
+none-fails f Service.One h = or-false _ _ (or-false (failureOf (f .one) || failureOf (f .two)) _ h .0) .0
+none-fails f Service.Two h = or-false (failureOf (f .one)) _ (or-false (failureOf (f .one) || failureOf (f .two)) _ h .0) .1
+none-fails f Service.Three h = or-false (failureOf (f .one) || failureOf (f .two)) _ h .1
 
-accepted : (g : Given) → failureOf (decidedOf Standing.Required g) ≡ Cause.Absent → g ≡ Given.Accepted
-accepted Given.Silent h = absurd (let z : _≡_ {A = ℕ} 0 1 = cc in omega arith)
+accepted : (g : Given) → failureOf (decidedOf Standing.Required g) ≡ false → g ≡ Given.Accepted
+accepted Given.Silent h = never refl h
 accepted Given.Accepted h = refl
-accepted Given.Rejected h = absurd (let z : _≡_ {A = ℕ} 0 1 = cc in omega arith)
+accepted Given.Rejected h = never refl h
 
-comes : (s : Standing) (g : Given) → s ≡ Standing.Required → failureOf (decidedOf s g) ≡ Cause.Absent → InForce (settledOf s (decidedOf s g))
+comes : (s : Standing) (g : Given) → s ≡ Standing.Required → failureOf (decidedOf s g) ≡ false → InForce (settledOf s (decidedOf s g))
 comes s g e h = rw (e, accepted g (rw e at h)) refl
 
 module _ (c : Call) (a : Answers) where
-  alerting-due : (k : Service) → standingFor (c .standings) k ≡ Standing.Required → failureOf (fateFor (alertingFatesOf (c .standings) a) k) ≡ Cause.Absent → AtAlerting k (settledOf (standingFor (c .standings) k) (fateFor (alertingFatesOf (c .standings) a) k))
+  alerting-due : (k : Service) → standingFor (c .standings) k ≡ Standing.Required → failureOf (fateFor (alertingFatesOf (c .standings) a) k) ≡ false → AtAlerting k (settledOf (standingFor (c .standings) k) (fateFor (alertingFatesOf (c .standings) a) k))
   unfolding alertingFatesOf
   alerting-due Service.One e h = comes _ _ e h
   alerting-due Service.Two e h = comes _ _ e h
   alerting-due Service.Three e h = e
 
-  connect-due : (alerted : Bool) (k : Service) → (alerted ≡ false → standingFor (c .standings) k ≡ Standing.Required) → (alerted ≡ true → AtAlerting k (standingFor (c .standings) k)) → failureOf (fateFor (connectFatesOf alerted (c .standings) a) k) ≡ Cause.Absent → InForce (settledOf (standingFor (c .standings) k) (fateFor (connectFatesOf alerted (c .standings) a) k))
+  connect-due : (alerted : Bool) (k : Service) → (alerted ≡ false → standingFor (c .standings) k ≡ Standing.Required) → (alerted ≡ true → AtAlerting k (standingFor (c .standings) k)) → failureOf (fateFor (connectFatesOf alerted (c .standings) a) k) ≡ false → InForce (settledOf (standingFor (c .standings) k) (fateFor (connectFatesOf alerted (c .standings) a) k))
   unfolding connectFatesOf
   connect-due true Service.One r w h = w refl
   connect-due true Service.Two r w h = w refl
@@ -154,12 +148,12 @@ module _ (c : Call) (a : Answers) where
   connect-due false Service.Three r w h = comes _ _ (r refl) h
 
 module _ (k : Service) (c : Call) where
-  outcome-due : (kind : Kind) (next : Phase) (f : Fates) (seen : Seen) (x : Cause) → (x ≡ Cause.Absent → Due k next (settledOf (standingFor (c .standings) k) (fateFor f k))) → DueIn k (answeringOf c kind next f seen x .call)
+  outcome-due : (kind : Kind) (next : Phase) (f : Fates) (seen : Seen) (x : Bool) → (x ≡ false → Due k next (settledOf (standingFor (c .standings) k) (fateFor f k))) → DueIn k (answeringOf c kind next f seen x .call)
   unfolding goesOnOf clearsOf inPhaseOf answeredCallOf
-  outcome-due kind next f seen Cause.Absent w = rw settled-for (w refl)
-  outcome-due kind next f seen (Cause.Value n) w = tt
+  outcome-due kind next f seen false w = rw settled-for (w refl)
+  outcome-due kind next f seen true w = tt
 
-  answered-due : (kind : Kind) (next : Phase) (f : Fates) (l : List ℕ) → (failureOf (fateFor f k) ≡ Cause.Absent → Due k next (settledOf (standingFor (c .standings) k) (fateFor f k))) → DueIn k (answeredOf c kind next f l .call)
+  answered-due : (kind : Kind) (next : Phase) (f : Fates) (l : List ℕ) → (failureOf (fateFor f k) ≡ false → Due k next (settledOf (standingFor (c .standings) k) (fateFor f k))) → DueIn k (answeredOf c kind next f l .call)
   unfolding answeredOf
   answered-due kind next f l w = outcome-due kind next f _ (failedOf f) (λ h. w (none-fails f k h))
 
@@ -256,16 +250,16 @@ unfolding proceedsOf setupPhaseOf
 setup-fails reference rights q seen x =
     by-cond (λ p. p ≡ Phase.Ended) (lacksOf rights q) (λ _. refl) (λ h. absurd (lacks rights q x h))
 
-fails : (s : Standing) (g : Given) → Fails s g → failureOf (decidedOf s g) ≡ Cause.Absent → ⊥
+fails : (s : Standing) (g : Given) → Fails s g → failureOf (decidedOf s g) ≡ false → ⊥
 fails s g x h = x .1 (accepted g (rw (x .0) at h))
 
 module _ (c : Call) (kind : Kind) (next : Phase) (f : Fates) where
-  outcome-fails : (seen : Seen) (x : Cause) → (x ≡ Cause.Absent → ⊥) → answeringOf c kind next f seen x .call .phase ≡ Phase.Clearing
+  outcome-fails : (seen : Seen) (x : Bool) → (x ≡ false → ⊥) → answeringOf c kind next f seen x .call .phase ≡ Phase.Clearing
   unfolding clearsOf inPhaseOf
-  outcome-fails seen Cause.Absent n = absurd (n refl)
-  outcome-fails seen (Cause.Value n) _ = refl
+  outcome-fails seen false n = absurd (n refl)
+  outcome-fails seen true _ = refl
 
-  answered-fails : (l : List ℕ) (k : Service) → (failureOf (fateFor f k) ≡ Cause.Absent → ⊥) → answeredOf c kind next f l .call .phase ≡ Phase.Clearing
+  answered-fails : (l : List ℕ) (k : Service) → (failureOf (fateFor f k) ≡ false → ⊥) → answeredOf c kind next f l .call .phase ≡ Phase.Clearing
   unfolding answeredOf
   answered-fails l k n = outcome-fails _ (failedOf f) (λ h. n (none-fails f k h))
 

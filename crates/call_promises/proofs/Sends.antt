@@ -63,9 +63,9 @@ use Rattle.call_promises.specs.Notes.{LacksRequired, Open, NotCarried, l
 use Rattle.call_promises.specs.Refusals.{sentTo}
 use Rattle.call_promises.specs.Handling.{Explicit}
 use Rattle.call_promises.specs.Services.{answerFor, standingFor}
-use Rattle.call_promises.specs.Sends.{Hears, Flags, Rides, telling, curt, congested, informing, Denied, denied, undenied, Remaining, preferred, required, gone, FailsAt, Blames, rejected, unanswered, Answering, on, clears, clears-too, Intact, CountPays, CreditPays, FirstDropped, Agreed, Worded, request, accept, reject, Pending, Rejecting, Accepting, LastWord, rejects, accepts, mute, Sends, released, proceeding, setup, alerting, connect, passes, warns, facility, refuses, disconnect, release, ready, IsWhatIsSent, SendsExactly}
+use Rattle.call_promises.specs.Sends.{Hears, Flags, Rides, telling, curt, congested, informing, Denied, denied, undenied, Remaining, preferred, required, gone, FailsAt, Answering, on, clears, clears-too, Intact, CountPays, CreditPays, FirstDropped, Agreed, Worded, request, accept, reject, Pending, Rejecting, Accepting, LastWord, rejects, accepts, mute, Sends, released, proceeding, setup, alerting, connect, passes, warns, facility, refuses, disconnect, release, ready, IsWhatIsSent, SendsExactly}
 use Rattle.call_promises.proofs.Conditions.{in-force, has, serves-three}
-use Rattle.call_promises.proofs.Notes.{lacks, setup-carries, alerting-carries, connect-carries, disconnect-comes, carriesOf, failsOf, any-fails}
+use Rattle.call_promises.proofs.Notes.{lacks, setup-carries, alerting-carries, connect-carries, disconnect-comes, carriesOf}
 use Rattle.call_promises.proofs.Phases.{fresh, requested, connectable, talking, active, up, live}
 use Rattle.call_promises.proofs.Ranges.{unsound, reference-range, rights-range}
 use Rattle.call_promises.proofs.Seen.{Sight, absent, malformed, too-long, whole, sight}
@@ -215,42 +215,41 @@ module _ (c : Call) (l : List ℕ) (e : Event) (kind : Kind) (next : Phase) (f :
       abbrev answers : Bool → Message
       answers b = telling kind Cause.Absent (toldOf (f .one)) (toldOf (f .two)) (toldOf (f .three)) b
 
-      abbrev rejections : ℕ → Message
-      rejections n = telling Kind.Disconnect (Cause.Value n) (declinedOf (f .one)) (declinedOf (f .two)) (declinedOf (f .three)) false
+      abbrev rejections : Message
+      rejections = telling Kind.Disconnect (Cause.Value 69) (declinedOf (f .one)) (declinedOf (f .two)) (declinedOf (f .three)) false
 
       on-one : ((k : Service) (g : Given) → FailsAt c e k g → ⊥) → (b : Bool) → Flags b (Rides c e l) → (m : Message) → Answering c l e kind Side.Calling m → answers b ≡ m
       on-one n b d m (on x s t u g) =
           λ j. telling kind Cause.Absent (settles-one c e Service.One one s .1 j) (settles-one c e Service.Two two t .1 j) (settles-one c e Service.Three three u .1 j) (one-flag d g j)
-      on-one n b d m (clears (rejected x) s t u) = absurd (n _ _ (x .fails))
-      on-one n b d m (clears (unanswered x) s t u) = absurd (n _ _ (x .fails))
+      on-one n b d m (clears x s t u) = absurd (n _ _ x)
 
       none-cleared : ((k : Service) (g : Given) → FailsAt c e k g → ⊥) → (m : Message) → Answering c l e kind Side.Called m → ⊥
       none-cleared n m (clears-too x) = n _ _ x
 
-      clears-one : (n : ℕ) (k : Service) (g : Given) → FailsAt c e k g → ((i : ℕ) → Blames c e i → n ≡ i) → (m : Message) → Answering c l e kind Side.Calling m → rejections n ≡ m
-      clears-one n k g x u m (on y s t v h) = absurd (y k g x)
-      clears-one n k g x u m (clears y s t v) =
-          λ j. telling Kind.Disconnect (Cause.Value (u _ y j)) (turned-one c e Service.One one s j) (turned-one c e Service.Two two t j) (turned-one c e Service.Three three v j) false
+      clears-one : (k : Service) (g : Given) → FailsAt c e k g → (m : Message) → Answering c l e kind Side.Calling m → rejections ≡ m
+      clears-one k g x m (on y s t v h) = absurd (y k g x)
+      clears-one k g x m (clears y s t v) =
+          λ j. telling Kind.Disconnect (Cause.Value 69) (turned-one c e Service.One one s j) (turned-one c e Service.Two two t j) (turned-one c e Service.Three three v j) false
 
       called-one : (m : Message) → Answering c l e kind Side.Called m → curt Kind.Disconnect (Cause.Value 31) ≡ m
       called-one m (clears-too x) = refl
 
-      pub answering-told : {seen : Seen} (x : Cause) → Outcome c e x → Sight l (limitFor c e) seen → Denies (not (failsOf x) && inForceOf (settledOf (c .standings .one) (f .one))) (NotCarried c e) → (side : Side) → IsWhatIsSent (Answering c l e kind side) (sentTo (answeringOf c kind next f seen x) side)
+      pub answering-told : {seen : Seen} (x : Bool) → Outcome c e x → Sight l (limitFor c e) seen → Denies (not x && inForceOf (settledOf (c .standings .one) (f .one))) (NotCarried c e) → (side : Side) → IsWhatIsSent (Answering c l e kind side) (sentTo (answeringOf c kind next f seen x) side)
       unfolding goesOnOf clearsOf answeredCallOf settlesOf tellsOf declinesOf bareOf sayingOf silence
-      answering-told Cause.Absent (sound n) v d Side.Calling =
+      answering-told false (sound n) v d Side.Calling =
           let b = rides c e l _ v (λ _. d) in
           told-by (answers _) refl (on n (settles-is c e Service.One one) (settles-is c e Service.Two two) (settles-is c e Service.Three three) b) (on-one n _ b)
-      answering-told Cause.Absent (sound n) v d Side.Called = told-none refl (none-cleared n)
-      answering-told (Cause.Value n) (fails k g x b u) v d Side.Calling =
-          told-by (rejections n) refl (clears b (turned-is c e Service.One one) (turned-is c e Service.Two two) (turned-is c e Service.Three three)) (clears-one n k g x u)
-      answering-told (Cause.Value n) (fails k g x b u) v d Side.Called = told-by (curt Kind.Disconnect (Cause.Value 31)) refl (clears-too x) called-one
+      answering-told false (sound n) v d Side.Called = told-none refl (none-cleared n)
+      answering-told true (fails k g x) v d Side.Calling =
+          told-by rejections refl (clears x (turned-is c e Service.One one) (turned-is c e Service.Two two) (turned-is c e Service.Three three)) (clears-one k g x)
+      answering-told true (fails k g x) v d Side.Called = told-by (curt Kind.Disconnect (Cause.Value 31)) refl (clears-too x) called-one
 
 -- what is said of an answering message is said of its event
 wrapped : {P Q : Message → Type 0} {s : Sent} → ((m : Message) → P m → Q m) → ((m : Message) → Q m → P m) → IsWhatIsSent P s → IsWhatIsSent Q s
 wrapped f g t m = ((λ h. f m (t m .0 h)), (λ q. t m .1 (g m q)))
 
 abbrev pub carrying : Standing → Fates → Bool
-carrying s f = not (failsOf (failedOf f)) && inForceOf (settledOf s (f .one))
+carrying s f = not (failedOf f) && inForceOf (settledOf s (f .one))
 
 pub alerting-denies : (c : Call) (a : Answers) → Denies (carrying (c .standings .one) (alertingFatesOf (c .standings) a)) (NotCarried c (Event.Alerting a))
 unfolding carriesOf

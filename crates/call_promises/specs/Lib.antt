@@ -8,6 +8,7 @@ pub mod Credit
 pub mod MoreRights
 pub mod Services
 pub mod Sends
+pub mod Causes
 pub mod Carriers
 pub mod Becomes
 pub mod LentMeter

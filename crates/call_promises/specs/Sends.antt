@@ -128,30 +128,18 @@ pub data TurnedDown (c : Call) (e : Event) (k : Service) : Said → Type 0 where
   turned : {g : Given} → Counts c e k g → (g ≡ Given.Accepted → ⊥) → TurnedDown c e k Said.ByUser
   unturned : ((g : Given) → Counts c e k g → g ≡ Given.Accepted) → TurnedDown c e k Said.Nothing
 
--- "The caller's cause is 29 for an explicit rejection, 69 for none, by the lowest failed required service."
-pub data Below : Service → Service → Type 0 where
-  one-two : Below Service.One Service.Two
-  one-three : Below Service.One Service.Three
-  two-three : Below Service.Two Service.Three
-
-pub record LowestFailed (c : Call) (e : Event) (k : Service) (g : Given) : Type 0 where
-  pub fails : FailsAt c e k g
-  pub lower : (j : Service) (h : Given) → Below j k → FailsAt c e j h → ⊥
-
-pub data Blames (c : Call) (e : Event) : ℕ → Type 0 where
-  rejected : {k : Service} → LowestFailed c e k Given.Rejected → Blames c e 29
-  unanswered : {k : Service} → LowestFailed c e k Given.Silent → Blames c e 69
-
 -- ALERTING and CONNECT. "Required and not accepted: DISCONNECT to the caller .., and to the called user with cause 31
--- .. Otherwise the message goes on with these answers, and its element if service 1 is in force."
+-- .. Otherwise the message goes on with these answers, and its element if service 1 is in force." Of the caller's cause
+-- EN 300 286-1 has for service 1 (9.1.1.2.2), service 2 (9.2.1.2) and service 3 (9.3.1.1.2), where it is rejected and
+-- where nothing is said of it: "shall clear the call towards the calling network indicating cause #69"
 pub data Answering (c : Call) (l : List ℕ) (e : Event) (kind : Kind) : Side → Message → Type 0 where
   on :
       {s t u : Standing} {one two three : Said} {b : Bool} → ((k : Service) (g : Given) → FailsAt c e k g → ⊥) →
       Settles c e Service.One s one → Settles c e Service.Two t two → Settles c e Service.Three u three → Flags b (Rides c e l) →
       Answering c l e kind Side.Calling (telling kind Cause.Absent one two three b)
   clears :
-      {n : ℕ} {one two three : Said} → Blames c e n → TurnedDown c e Service.One one → TurnedDown c e Service.Two two → TurnedDown c e Service.Three three →
-      Answering c l e kind Side.Calling (telling Kind.Disconnect (Cause.Value n) one two three false)
+      {k : Service} {g : Given} {one two three : Said} → FailsAt c e k g → TurnedDown c e Service.One one → TurnedDown c e Service.Two two → TurnedDown c e Service.Three three →
+      Answering c l e kind Side.Calling (telling Kind.Disconnect (Cause.Value 69) one two three false)
   clears-too : {k : Service} {g : Given} → FailsAt c e k g → Answering c l e kind Side.Called (curt Kind.Disconnect (Cause.Value 31))
 
 -- USER INFORMATION whose element is neither absent, malformed nor over the limit (17)

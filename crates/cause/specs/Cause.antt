@@ -1,13 +1,10 @@
 -- Causes that the box gives itself.
 use Prim.Native.Nat.{ℕ}
-use Rattle.cause.specs.declared.Cause.{Cause}
 
--- "The caller's cause is 29 for an explicit rejection, 69 for none"
-abbrev pub rejected : ℕ
-rejected = 29
-
-abbrev pub notAnswered : ℕ
-notAnswered = 69
+-- EN 300 286-1, 9.1.1.2.2, 9.2.1.2 and 9.3.1.1.2, on an explicit rejection of a required service as on no answer: "shall
+-- clear the call towards the calling network indicating cause #69"
+abbrev pub notAccepted : ℕ
+notAccepted = 69
 
 -- "and to the called user with cause 31"
 abbrev pub cleared : ℕ
@@ -24,7 +21,3 @@ notSubscribed = 50
 -- "DISCONNECT, cause over 127"
 abbrev pub greatestCause : ℕ
 greatestCause = 127
-
-abbrev pub firstOf : Cause → Cause → Cause
-firstOf Cause.Absent b = b
-firstOf (Cause.Value n) b = Cause.Value n

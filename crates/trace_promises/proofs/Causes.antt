@@ -44,7 +44,6 @@ use Rattle.table.specs.declared.settle.Outcome.{Outcome}
 use Rattle.table.specs.Settle.{settledOf, tableRefusalOf, heardOutcomeOf}
 use Rattle.table.specs.Step.{outcomeAt, stepOutcome}
 use Rattle.logic.proofs.Decide.{by-cond}
-use Rattle.call_promises.proofs.Failing.{alerting-cause, connect-cause}
 use Rattle.flow_meter.specs.CallMeters.{readyOf}
 use Rattle.table.specs.Choice.{chosenOf}
 
@@ -98,14 +97,14 @@ setup-says reference rights q seen =
       called = by-cond SentIn (lacksOf rights q) (λ _. tt) (λ _. saying-in _ _ _ _ tt);
     }
 
-outcome-says : (c : Call) (kind : Kind) (next : Phase) (f : Fates) (seen : Seen) (x : Cause) → CauseIn x → Says (answeringOf c kind next f seen x)
+outcome-says : (c : Call) (kind : Kind) (next : Phase) (f : Fates) (seen : Seen) (x : Bool) → Says (answeringOf c kind next f seen x)
 unfolding goesOnOf clearsOf bareOf
-outcome-says c kind next f seen Cause.Absent h = record { calling = saying-in _ _ _ _ tt; called = tt }
-outcome-says c kind next f seen (Cause.Value n) h = record { calling = saying-in _ _ _ _ h; called = saying-in _ _ _ _ (omega arith) }
+outcome-says c kind next f seen false = record { calling = saying-in _ _ _ _ tt; called = tt }
+outcome-says c kind next f seen true = record { calling = saying-in _ _ _ _ (omega arith); called = saying-in _ _ _ _ (omega arith) }
 
-answered-says : (c : Call) (kind : Kind) (next : Phase) (f : Fates) (l : List ℕ) → CauseIn (failedOf f) → Says (answeredOf c kind next f l)
+answered-says : (c : Call) (kind : Kind) (next : Phase) (f : Fates) (l : List ℕ) → Says (answeredOf c kind next f l)
 unfolding answeredOf
-answered-says c kind next f l h = outcome-says c kind next f _ (failedOf f) h
+answered-says c kind next f l = outcome-says c kind next f _ (failedOf f)
 
 carried-says : (c : Call) (side : Side) (more : Bool) (p : Passage) → Says (carriedOf c side more p)
 unfolding carriedOf
@@ -136,8 +135,8 @@ in-bar c a cause h = leb-true cause 127 (ranged-bar (soundOf c) a (leb cause 127
 says : (c : Call) (e : Event) (l : List ℕ) → Says (stepOf c e l)
 unfolding setupOf alertingOf connectOf informationOf facilityOf passesFacilityOf aboutThreeOf disconnectOf passedOnOf releaseCompleteOf endsOf bareOf tickOf notAnEventOf
 says c (Event.Setup reference rights q) l = heard-says c _ _ (λ _. setup-says reference rights q _)
-says c (Event.Alerting answers) l = heard-says c _ _ (λ _. answered-says c _ _ _ l (alerting-cause CauseIn tt (omega arith) (omega arith) (c .standings) answers))
-says c (Event.Connect answers) l = heard-says c _ _ (λ _. answered-says c _ _ _ l (connect-cause CauseIn tt (omega arith) (omega arith) _ (c .standings) answers))
+says c (Event.Alerting answers) l = heard-says c _ _ (λ _. answered-says c _ _ _ l)
+says c (Event.Connect answers) l = heard-says c _ _ (λ _. answered-says c _ _ _ l)
 says c (Event.Information side more) l = heard-says c _ _ (λ _. element-says c _ _ (carried-says c side more _))
 says c (Event.Facility side what) l = heard-says c _ _ (λ _. side-says side _ _ _ _ _ _ (only-in _ _ (saying-in _ _ _ _ tt)) (only-in _ _ (saying-in _ _ _ _ tt)))
 says c (Event.Disconnect side cause answers) l = heard-says c _ _ (λ h. side-says side _ _ _ _ _ _ tt (saying-in _ _ _ _ (in-bar c _ cause h)))

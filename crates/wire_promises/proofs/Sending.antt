@@ -62,7 +62,6 @@ use Rattle.call_promises.specs.Refusals.{sentTo}
 use Rattle.call_promises.specs.Handling.{handedIn, handedTo}
 use Rattle.wire_promises.specs.Sending.{singleFor, componentFor, Host, HostInRange, facilitiesFor, wireOf, Sending}
 use Rattle.logic.proofs.Decide.{by-cond, both, le}
-use Rattle.call_promises.proofs.Failing.{alerting-cause, connect-cause}
 use Rattle.call_promises.proofs.Heard.{Heard, through, barred, heard}
 use Rattle.call_promises.proofs.Phases.{requested, connectable, talking, active, up, live}
 use Rattle.call_promises.proofs.Ranges.{reference-range, rights-range, in-range}
@@ -165,15 +164,15 @@ module _ (limit : ℕ) (most : limit ≤ 131) where
         called = by-cond (Sends limit) (lacksOf rights q) (λ _. tt) (λ _. saying-sends _ _ _ _ refl tt);
       }
 
-  outcome-speaks : (c : Call) (kind : Kind) (next : Phase) (f : Fates) (seen : Seen) (x : Cause) → SingleIn kind Single.Absent → CauseIn x → Speaks limit (answeringOf c kind next f seen x)
+  outcome-speaks : (c : Call) (kind : Kind) (next : Phase) (f : Fates) (seen : Seen) (x : Bool) → SingleIn kind Single.Absent → Speaks limit (answeringOf c kind next f seen x)
   unfolding goesOnOf clearsOf bareOf
-  outcome-speaks c kind next f seen Cause.Absent s k = record { calling = saying-sends _ _ _ _ s tt; called = tt }
-  outcome-speaks c kind next f seen (Cause.Value n) s k =
-      record { calling = saying-sends _ _ _ _ refl k; called = saying-sends _ _ _ _ refl (omega arith) }
+  outcome-speaks c kind next f seen false s = record { calling = saying-sends _ _ _ _ s tt; called = tt }
+  outcome-speaks c kind next f seen true s =
+      record { calling = saying-sends _ _ _ _ refl (omega arith); called = saying-sends _ _ _ _ refl (omega arith) }
 
-  answered-speaks : (c : Call) (kind : Kind) (next : Phase) (f : Fates) (l : List ℕ) → SingleIn kind Single.Absent → CauseIn (failedOf f) → Speaks limit (answeredOf c kind next f l)
+  answered-speaks : (c : Call) (kind : Kind) (next : Phase) (f : Fates) (l : List ℕ) → SingleIn kind Single.Absent → Speaks limit (answeredOf c kind next f l)
   unfolding answeredOf
-  answered-speaks c kind next f l s k = outcome-speaks c kind next f _ (failedOf f) s k
+  answered-speaks c kind next f l s = outcome-speaks c kind next f _ (failedOf f) s
 
   carried-speaks : (c : Call) (side : Side) (more : Bool) (p : Passage) → Speaks limit (carriedOf c side more p)
   unfolding carriedOf
@@ -203,10 +202,10 @@ speaks c (Event.Setup reference rights q) l =
     (λ _ _ g. setup-speaks _ (both _ _ (reference-range reference) (rights-range rights) .so g .1 .limit .1) reference rights q _)
 speaks c (Event.Alerting answers) l =
     live-speaks c _ _ _ (heard c _ _ _) (λ h. inl (inl (requested (c .phase) .so h)))
-    (λ k _. answered-speaks _ k c Kind.Alerting _ _ l refl (alerting-cause CauseIn tt (omega arith) (omega arith) (c .standings) answers))
+    (λ k _. answered-speaks _ k c Kind.Alerting _ _ l refl)
 speaks c (Event.Connect answers) l =
     live-speaks c _ _ _ (heard c _ _ _) (λ h. inl (⊎-elim (λ e. inl e) (λ e. inr (inl e)) (connectable (c .phase) .so h)))
-    (λ k _. answered-speaks _ k c Kind.Connect _ _ l refl (connect-cause CauseIn tt (omega arith) (omega arith) _ (c .standings) answers))
+    (λ k _. answered-speaks _ k c Kind.Connect _ _ l refl)
 speaks c (Event.Information side more) l =
     live-speaks c _ _ _ (heard c _ _ _) (λ h. inl (inr (talking (c .phase) .so h))) (λ k _. element-speaks _ k c side more _)
 speaks c (Event.Facility side what) l =

@@ -18,7 +18,7 @@ unsaid : (f : Fate) → OneOf first (tagOf the-type f) → Said.Nothing ≡ decl
 unsaid Fate.Kept k = refl
 unsaid Fate.Accepted k = refl
 unsaid Fate.Closed k = absurd (miss first 2 tt k)
-unsaid (Fate.Failed n) k = absurd (miss first 3 tt k)
+unsaid Fate.Failed k = absurd (miss first 3 tt k)
 
 abbrev rest : List ℕ
 rest = 2 ∷ 3 ∷ []
@@ -28,7 +28,7 @@ others : (f : Fate) → OneOf rest (tagOf the-type f) → Said.ByUser ≡ declin
 others Fate.Kept k = absurd (miss rest 0 tt k)
 others Fate.Accepted k = absurd (miss rest 1 tt k)
 others Fate.Closed k = refl
-others (Fate.Failed n) k = refl
+others Fate.Failed k = refl
 
 returns : tie.Need-returns
 returns c = unsaid (c .before .args .f) (c .match .keys1)

@@ -12,23 +12,9 @@ failure-requires-2 c κs = search needs
 failure-requires-3 : tie.Need-failure-requires-3
 failure-requires-3 c κs = search needs
 
-first-requires : tie.Need-first-requires
-first-requires c κs = search needs
-
-first-requires-2 : tie.Need-first-requires-2
-first-requires-2 c κs = search needs
-
 returns : tie.Need-returns
 unfolding failedOf
-returns c = simp (c .first2 .ensures, c .before .first .ensures, c .before .before .failure3 .ensures, c .before .before .before .failure2 .ensures, c .before .before .before .before .failure .ensures)
+returns c = simp (c .failure3 .ensures, c .before .failure2 .ensures, c .before .before .failure .ensures)
 
 pub failed-spec : {M : Type 1} → statement M
-failed-spec =
-    tie.close
-    (tie.spec
-    failure-requires
-    failure-requires-2
-    failure-requires-3
-    first-requires
-    first-requires-2
-    returns)
+failed-spec = tie.close (tie.spec failure-requires failure-requires-2 failure-requires-3 returns)

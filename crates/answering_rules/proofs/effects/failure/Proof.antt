@@ -4,7 +4,7 @@ use mathlib.Core.List.{List, [], _∷_}
 use mathlib.Core.Path.{_≡_, refl}
 use types.Run.{OneOf, miss}
 use borrow.Author.Needs.{needs}
-use Rattle.cause.specs.declared.Cause.{Cause}
+use mathlib.Core.Bool.{false}
 use Rattle.answering_rules.specs.declared.Fate.{Fate}
 use Rattle.answering_rules.proofs.Fate.{the-type}
 use Rattle.answering_rules.specs.Effects.{failureOf}
@@ -15,20 +15,20 @@ abbrev rest : List ℕ
 rest = 0 ∷ 1 ∷ 2 ∷ []
 
 -- no fate of the last arm has failed
-others : (f : Fate) → OneOf rest (tagOf the-type f) → Cause.Absent ≡ failureOf f
+others : (f : Fate) → OneOf rest (tagOf the-type f) → false ≡ failureOf f
 others Fate.Kept k = refl
 others Fate.Accepted k = refl
 others Fate.Closed k = refl
-others (Fate.Failed n) k = absurd (miss rest 3 tt k)
+others Fate.Failed k = absurd (miss rest 3 tt k)
 
-enum-known-f : tie.Need-enum-known-f
-enum-known-f c = search needs
+enum-told : tie.Need-enum-told
+enum-told c = search needs
 
 returns : tie.Need-returns
-returns c = simp (c .before .f .given .1)
+returns c = search needs
 
 returns-2 : tie.Need-returns-2
 returns-2 c = others (c .before .args .f) (c .match .keys2)
 
 pub failure-spec : {M : Type 1} → statement M
-failure-spec = tie.close (tie.spec enum-known-f returns returns-2)
+failure-spec = tie.close (tie.spec enum-told returns returns-2)

@@ -16,7 +16,7 @@ others : (m : Meters) (burst : ℕ) (x : Fate) → OneOf (0 ∷ 2 ∷ 3 ∷ []) 
 others m burst Fate.Kept k = refl
 others m burst Fate.Accepted k = absurd (miss (0 ∷ 2 ∷ 3 ∷ []) 1 tt k)
 others m burst Fate.Closed k = refl
-others m burst (Fate.Failed n) k = refl
+others m burst Fate.Failed k = refl
 
 enum-told : tie.Need-enum-told
 enum-told c = search needs

@@ -19,7 +19,7 @@ others : (s : Standing) (f : Fate) → OneOf rest (tagOf the-type f) → Standin
 others s Fate.Kept k = absurd (miss rest 0 tt k)
 others s Fate.Accepted k = absurd (miss rest 1 tt k)
 others s Fate.Closed k = refl
-others s (Fate.Failed n) k = refl
+others s Fate.Failed k = refl
 
 enum-told : tie.Need-enum-told
 enum-told c = search needs

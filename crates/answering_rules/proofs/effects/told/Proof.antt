@@ -19,7 +19,7 @@ others : (f : Fate) → OneOf rest (tagOf the-type f) → Said.ByUser ≡ toldOf
 others Fate.Kept k = absurd (miss rest 0 tt k)
 others Fate.Accepted k = absurd (miss rest 1 tt k)
 others Fate.Closed k = refl
-others (Fate.Failed n) k = refl
+others Fate.Failed k = refl
 
 enum-told : tie.Need-enum-told
 enum-told c = search needs

@@ -15,25 +15,19 @@ look-requires c κs = search needs
 failed-requires : tie.Need-failed-requires
 failed-requires c κs = search needs
 
-enum-told : tie.Need-enum-told
-enum-told c = search needs
+clears-requires : tie.Need-clears-requires
+clears-requires c κs = search needs
 
 goes-on-requires : tie.Need-goes-on-requires
 goes-on-requires c κs = search needs
 
-enum-known-n : tie.Need-enum-known-n
-enum-known-n c = search needs
-
-clears-requires : tie.Need-clears-requires
-clears-requires c κs = search needs
-
 returns : tie.Need-returns
 unfolding answeredOf
-returns c = simp (c .goes-on .ensures, c .before .enum-told .given .1, ← (c .before .before .before .failed .ensures), c .before .before .before .before .look .ensures)
+returns c = simp (c .clears .ensures, c .before .if1 .taken, ← (c .before .before .failed .ensures), c .before .before .before .look .ensures)
 
 returns-2 : tie.Need-returns-2
 unfolding answeredOf
-returns-2 c = simp (c .clears .ensures, c .before .before .n .given .1, ← (c .before .before .before .before .failed .ensures), c .before .before .before .before .before .look .ensures)
+returns-2 c = simp (c .goes-on .ensures, c .before .if1 .left, ← (c .before .before .failed .ensures), c .before .before .before .look .ensures)
 
 pub answered-spec : {M : Type 1} → statement M
 answered-spec =
@@ -41,9 +35,7 @@ answered-spec =
     (tie.spec
     look-requires
     failed-requires
-    enum-told
-    goes-on-requires
-    enum-known-n
     clears-requires
+    goes-on-requires
     returns
     returns-2)
