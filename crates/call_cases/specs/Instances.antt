@@ -5,6 +5,8 @@ use mathlib.Core.List.{List, [], _∷_, _++_}
 use mathlib.Core.Bool.{true, false}
 use mathlib.Core.Path.{_≡_}
 use Rattle.cause.specs.declared.Cause.{Cause}
+use Rattle.rights.specs.declared.Service.{Service}
+use Rattle.services.specs.declared.Answers.{Answers}
 use Rattle.services.specs.declared.Given.{Given}
 use Rattle.services.specs.declared.Request.{Request}
 use Rattle.services.specs.declared.Standing.{Standing}
@@ -166,3 +168,69 @@ abbrev pub Example : Type 0
 Example =
     (creditsOf Side.Calling unopened example ≡ 0 ∷ 0 ∷ 2 ∷ 1 ∷ 0 ∷ 0 ∷ 0 ∷ 1 ∷ 0 ∷ 0 ∷ 0 ∷ [])
     × (creditsOf Side.Called unopened example ≡ 0 ∷ 0 ∷ 2 ∷ 2 ∷ 2 ∷ 2 ∷ 2 ∷ 2 ∷ 2 ∷ 2 ∷ 2 ∷ [])
+
+-- a SETUP that asks for one service, as required; and answers that speak of one service
+abbrev pub requiring : Service → List Offered
+requiring Service.One = setup 7 Request.Required Request.Unasked Request.Unasked 131 [] ∷ []
+requiring Service.Two = setup 7 Request.Unasked Request.Required Request.Unasked 131 [] ∷ []
+requiring Service.Three = setup 7 Request.Unasked Request.Unasked Request.Required 131 [] ∷ []
+
+abbrev pub saying : Service → Given → Answers
+saying Service.One g = record { one = g; two = Given.Silent; three = Given.Silent }
+saying Service.Two g = record { one = Given.Silent; two = g; three = Given.Silent }
+saying Service.Three g = record { one = Given.Silent; two = Given.Silent; three = g }
+
+-- both users are cleared by the box: the caller hears 69, the called user 31
+abbrev pub clearing : List Offered → Event → CallCase
+clearing before e =
+    record {
+      before = before;
+      event = bare e;
+      gives =
+          record {
+            answer = 0;
+            note = 0;
+            phase = Phase.Clearing;
+            calling = message Kind.Disconnect (Cause.Value 69) false;
+            called = message Kind.Disconnect (Cause.Value 31) false;
+          };
+    }
+
+-- CLEARED. A required service that fails: each service, at each message at which an answer to it is due, rejected and not
+-- answered; for service 2 in CONNECT without ALERTING, whatever is said of it. Service 3, not answered, is one of the
+-- paper's cases and stands in `Marked`.
+abbrev pub Cleared : Type 0
+Cleared =
+    AllCases
+    (clearing (requiring Service.One) (Event.Alerting (saying Service.One Given.Rejected))
+    ∷ clearing (requiring Service.One) (Event.Alerting silent)
+    ∷ clearing (requiring Service.One) (Event.Connect (saying Service.One Given.Rejected))
+    ∷ clearing (requiring Service.One) (Event.Connect silent)
+    ∷ clearing (requiring Service.Two) (Event.Alerting (saying Service.Two Given.Rejected))
+    ∷ clearing (requiring Service.Two) (Event.Alerting silent)
+    ∷ clearing (requiring Service.Two) (Event.Connect (saying Service.Two Given.Rejected))
+    ∷ clearing (requiring Service.Two) (Event.Connect (saying Service.Two Given.Accepted))
+    ∷ clearing (requiring Service.Two) (Event.Connect silent)
+    ∷ clearing (requiring Service.Three) (Event.Connect (saying Service.Three Given.Rejected))
+    ∷ clearing (requiring Service.Three ++ (bare (Event.Alerting silent) ∷ [])) (Event.Connect (saying Service.Three Given.Rejected))
+    ∷ [])
+
+-- the called user rejects a required service in a DISCONNECT of its own
+abbrev pub declining : ℕ → CallCase
+declining cause =
+    record {
+      before = requiring Service.Three;
+      event = bare (Event.Disconnect Side.Called cause (saying Service.Three Given.Rejected));
+      gives =
+          record {
+            answer = 0;
+            note = 0;
+            phase = Phase.Clearing;
+            calling = message Kind.Disconnect (Cause.Value cause) false;
+            called = nothing;
+          };
+    }
+
+-- MET. Its cause goes on as it is: 29, which `TwentyNine` speaks of, and any other.
+abbrev pub TwentyNineMet : Type 0
+TwentyNineMet = AllCases (declining 29 ∷ declining 69 ∷ declining 16 ∷ [])

@@ -4,6 +4,9 @@ use Rattle.demands.proofs.Meets.{meets}
 use Rattle.demands.proofs.Decided.{decided}
 use Rattle.demands.proofs.WrongCores.{wrong-cores}
 use Rattle.demands.proofs.OneReply.{one-reply}
+use Rattle.call_promises.proofs.Causes.{causes}
+use Rattle.call_promises.proofs.Causes.{one-cause}
+use Rattle.call_promises.proofs.Causes.{twenty-nine}
 use Rattle.octet_promises.proofs.Behind.{our-reading}
 use Rattle.octet_promises.proofs.Others.{shifts-bind}
 use Rattle.octet_promises.proofs.Promises.{element}
@@ -46,6 +49,8 @@ use Rattle.call_cases.proofs.Instances.{instances}
 use Rattle.call_cases.proofs.Instances.{reached}
 use Rattle.call_cases.proofs.Instances.{broken}
 use Rattle.call_cases.proofs.Instances.{example}
+use Rattle.call_cases.proofs.Instances.{cleared}
+use Rattle.call_cases.proofs.Instances.{twenty-nine-met}
 use Rattle.call_cases.proofs.MoreInstances.{more-instances}
 use Rattle.call_cases.proofs.MoreInstances.{none-left-out}
 use Rattle.call_cases.proofs.MoreInstances.{credit-shown}
@@ -66,6 +71,9 @@ every-promise =
       decided = decided;
       wrongCores = wrong-cores;
       oneReply = one-reply;
+      causes = causes;
+      oneCause = one-cause;
+      twentyNine = twenty-nine;
       reading = our-reading;
       shifts = shifts-bind;
       wholeElement = element;
@@ -109,6 +117,8 @@ every-promise =
       reached = reached;
       broken = broken;
       example = example;
+      cleared = cleared;
+      twentyNineMet = twenty-nine-met;
       moreInstances = more-instances;
       noneLeftOut = none-left-out;
       creditShown = credit-shown;

@@ -50,7 +50,7 @@ use Rattle.call_promises.specs.Refusals.{sentTo, altered}
 use Rattle.call_promises.specs.Sends.{SendsExactly}
 use Rattle.call_promises.specs.Carriers.{CarriersExactly}
 use Rattle.call_promises.specs.Becomes.{BecomesExactly}
-use Rattle.demands.specs.WrongCores.{refuses, fixed, mute, nods, but, opensBoth, keepsMarks, keepsOpen, creditsOne, never29, never31, leavesAsking, invents, mumbles, returns, forgetsThree, leavesElement, chargesThree, WrongCores}
+use Rattle.demands.specs.WrongCores.{refuses, fixed, mute, nods, but, opensBoth, keepsMarks, keepsOpen, creditsOne, says29, never29, never31, leavesAsking, invents, mumbles, returns, forgetsThree, leavesElement, chargesThree, WrongCores}
 use Rattle.demands.proofs.Decided.{same-record, same-numbers, same-messages, same-carrier}
 
 -- a call with every right, in some phase, with services and marks as they may be
@@ -187,6 +187,10 @@ accepted = at Phase.Alerting Standing.Unasked Standing.Preferred false (Event.Co
 abbrev rejected : Trial
 rejected = at Phase.Requested Standing.Required Standing.Unasked false (Event.Alerting (saying Given.Rejected Given.Silent)) []
 
+-- the called user rejects it in a DISCONNECT of its own
+abbrev declined : Trial
+declined = at Phase.Requested Standing.Required Standing.Unasked false (Event.Disconnect Side.Called 29 (saying Given.Rejected Given.Silent)) []
+
 abbrev unpaid : Trial
 unpaid = at Phase.Active Standing.Unasked Standing.InForce false (Event.Information Side.Calling false) cue
 
@@ -223,7 +227,8 @@ record Facts : Type 0 where
   closes : (isClosed (ours unanswered .call .standings .one) ≡ 1) × (isClosed (theirs keepsOpen unanswered .call .standings .one) ≡ 0)
   credits : (ours accepted .call .meters .called .credit ≡ 2) × (theirs creditsOne accepted .call .meters .called .credit ≡ 0)
   fills : (ours ticked .call .meters .calling .credit ≡ 1) × (theirs invents ticked .call .meters .calling .credit ≡ 2)
-  blames : (causeIn (ours rejected .dispatch .calling) ≡ 29) × (causeIn (theirs never29 rejected .dispatch .calling) ≡ 69)
+  blames : (causeIn (ours rejected .dispatch .calling) ≡ 69) × (causeIn (theirs says29 rejected .dispatch .calling) ≡ 29)
+  declines : (causeIn (ours declined .dispatch .calling) ≡ 29) × (causeIn (theirs never29 declined .dispatch .calling) ≡ 69)
   clears : (causeIn (ours rejected .dispatch .called) ≡ 31) × (causeIn (theirs never31 rejected .dispatch .called) ≡ 69)
   warns : (causeIn (ours unpaid .dispatch .calling) ≡ 43) × (causeIn (theirs mumbles unpaid .dispatch .calling) ≡ 128)
   releases : (isSent (ours released .dispatch .called) ≡ 1) × (isSent (theirs returns released .dispatch .called) ≡ 0)
@@ -248,6 +253,7 @@ facts =
       credits = (refl, refl);
       fills = (refl, refl);
       blames = (refl, refl);
+      declines = (refl, refl);
       clears = (refl, refl);
       warns = (refl, refl);
       releases = (refl, refl);
@@ -281,7 +287,8 @@ wrong-cores =
       keepingOpen = by-record (but keepsOpen) unanswered (λ c. isClosed (c .standings .one)) 1 0 (facts .closes .0) (facts .closes .1) (omega arith);
       creditingOne = by-record (but creditsOne) accepted (λ c. c .meters .called .credit) 2 0 (facts .credits .0) (facts .credits .1) (omega arith);
       inventing = by-record (but invents) ticked (λ c. c .meters .calling .credit) 1 2 (facts .fills .0) (facts .fills .1) (omega arith);
-      neverRejecting = by-message (but never29) rejected Side.Calling causeIn 29 69 (facts .blames .0) (facts .blames .1) (omega arith);
+      rejecting = by-message (but says29) rejected Side.Calling causeIn 69 29 (facts .blames .0) (facts .blames .1) (omega arith);
+      correcting = by-message (but never29) declined Side.Calling causeIn 29 69 (facts .declines .0) (facts .declines .1) (omega arith);
       blaming = by-message (but never31) rejected Side.Called causeIn 31 69 (facts .clears .0) (facts .clears .1) (omega arith);
       mumbling = by-message (but mumbles) unpaid Side.Calling causeIn 43 128 (facts .warns .0) (facts .warns .1) (omega arith);
       returning = by-message (but returns) released Side.Called isSent 1 0 (facts .releases .0) (facts .releases .1) (omega arith);

@@ -6,6 +6,11 @@ use Rattle.demands.specs.Demands.{Demands}
 use Rattle.demands.specs.Demands.{Decided}
 use Rattle.demands.specs.WrongCores.{WrongCores}
 use Rattle.demands.specs.OneReply.{OneReply}
+use Rattle.call_promises.specs.Numbers.{Core}
+use Rattle.call_promises.specs.Sends.{SendsExactly}
+use Rattle.call_promises.specs.Causes.{Causes}
+use Rattle.call_promises.specs.Causes.{OneCause}
+use Rattle.call_promises.specs.Causes.{TwentyNine}
 use Rattle.octet_promises.specs.ReadingDemands.{OurReading}
 use Rattle.octet_promises.specs.OtherReaders.{ShiftsBind}
 use Rattle.octet_promises.specs.Promises.{WholeElement}
@@ -49,6 +54,8 @@ use Rattle.call_cases.specs.Instances.{Instances}
 use Rattle.call_cases.specs.Instances.{Reached}
 use Rattle.call_cases.specs.Instances.{Broken}
 use Rattle.call_cases.specs.Instances.{Example}
+use Rattle.call_cases.specs.Instances.{Cleared}
+use Rattle.call_cases.specs.Instances.{TwentyNineMet}
 use Rattle.call_cases.specs.MoreInstances.{MoreInstances}
 use Rattle.call_cases.specs.MoreInstances.{NoneLeftOut}
 use Rattle.call_cases.specs.MoreInstances.{CreditShown}
@@ -67,6 +74,10 @@ pub record EveryPromise : Type 1 where
   pub decided : Decided
   pub wrongCores : WrongCores
   pub oneReply : OneReply
+  -- the causes follow from what is sent, whatever the core
+  pub causes : (f : Core) → SendsExactly f → Causes f
+  pub oneCause : OneCause
+  pub twentyNine : (f : Core) → Causes f → TwentyNine f
   -- OCTETS. What is written reads back the same; which elements count, and that this decides the reader
   pub reading : OurReading
   pub shifts : ShiftsBind
@@ -117,6 +128,8 @@ pub record EveryPromise : Type 1 where
   pub reached : Reached
   pub broken : Broken
   pub example : Example
+  pub cleared : Cleared
+  pub twentyNineMet : TwentyNineMet
   pub moreInstances : MoreInstances
   pub noneLeftOut : NoneLeftOut
   pub creditShown : CreditShown

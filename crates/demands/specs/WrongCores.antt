@@ -156,17 +156,22 @@ abbrev pub withCause : Message → Cause → Message
 withCause m cause =
     record { kind = m .kind; cause = cause; level = m .level; said = m .said; more = m .more; element = m .element }
 
-abbrev pub sixtyNineFor : ℕ → Cause → Cause
-sixtyNineFor k Cause.Absent = Cause.Absent
-sixtyNineFor k (Cause.Value n) = Cause.Value (cond (eqb n k) 69 n)
+-- one cause for another
+abbrev pub inPlaceOf : ℕ → ℕ → Cause → Cause
+inPlaceOf k n Cause.Absent = Cause.Absent
+inPlaceOf k n (Cause.Value m) = Cause.Value (cond (eqb m k) n m)
 
--- the caller never hears 29: an explicit rejection gives 69
+-- the caller hears 29 where a required service fails
+abbrev pub says29 : Call → Reply → Reply
+says29 c r = withSent r (inEach (λ m. withCause m (inPlaceOf 69 29 (m .cause))) (r .dispatch .calling)) (r .dispatch .called)
+
+-- the caller never hears 29: the called user's own goes on as 69
 abbrev pub never29 : Call → Reply → Reply
-never29 c r = withSent r (inEach (λ m. withCause m (sixtyNineFor 29 (m .cause))) (r .dispatch .calling)) (r .dispatch .called)
+never29 c r = withSent r (inEach (λ m. withCause m (inPlaceOf 29 69 (m .cause))) (r .dispatch .calling)) (r .dispatch .called)
 
 -- the called user never hears 31: where a required service fails it hears 69
 abbrev pub never31 : Call → Reply → Reply
-never31 c r = withSent r (r .dispatch .calling) (inEach (λ m. withCause m (sixtyNineFor 31 (m .cause))) (r .dispatch .called))
+never31 c r = withSent r (r .dispatch .calling) (inEach (λ m. withCause m (inPlaceOf 31 69 (m .cause))) (r .dispatch .called))
 
 -- congestion is told without its cause
 abbrev pub causeless : Message → Message
@@ -239,7 +244,8 @@ pub record WrongCores : Type 0 where
   pub keepingOpen : BecomesExactly (but keepsOpen) → ⊥
   pub creditingOne : BecomesExactly (but creditsOne) → ⊥
   pub inventing : BecomesExactly (but invents) → ⊥
-  pub neverRejecting : SendsExactly (but never29) → ⊥
+  pub rejecting : SendsExactly (but says29) → ⊥
+  pub correcting : SendsExactly (but never29) → ⊥
   pub blaming : SendsExactly (but never31) → ⊥
   pub mumbling : SendsExactly (but mumbles) → ⊥
   pub returning : SendsExactly (but returns) → ⊥
