@@ -291,7 +291,8 @@ fn limits(page: &mut [u8; 4096]) {
     sets_up(page, b"three octets", rights(1, false, 5), q, b"~\x01\x04");
 }
 
-// A required service that the rights lack, and one that is not answered.
+// A required service that the rights lack; one that is not answered, and one that is rejected: in CONNECT, where the box
+// clears the call, and in the called user's own clearing message, whose cause goes on.
 fn required(page: &mut [u8; 4096]) {
     let two = requests(Request::Unasked, Request::Required, Request::Unasked);
     let three = requests(Request::Unasked, Request::Unasked, Request::Required);
@@ -310,6 +311,13 @@ fn required(page: &mut [u8; 4096]) {
         b"",
     );
     connects(page, b"connect, silent", c, Given::Silent);
+    connects(page, b"connect, rejected", c, Given::Rejected);
+    let e = Event::Disconnect {
+        side: Side::Called,
+        cause: 29,
+        answers: answers(Given::Rejected),
+    };
+    run(page, b"called disconnect, rejected", c, e, b"");
 }
 
 // Service 3 asked for while connected: without leave, as required, and then taken and accepted.
@@ -354,8 +362,7 @@ fn rejects(page: &mut [u8; 4096], name: &[u8], c: Call) {
     run(page, name, c, e, b"");
 }
 
-// Services that fail in one CONNECT without ALERTING. The cause goes by the lowest required one: 69 for none, 29 for a
-// rejection.
+// Services that fail in one CONNECT without ALERTING: the caller hears 69, whichever it was.
 fn fails(page: &mut [u8; 4096]) {
     let both = requests(Request::Required, Request::Unasked, Request::Required);
     let three = requests(Request::Preferred, Request::Unasked, Request::Required);
