@@ -196,9 +196,9 @@ clearing before e =
           };
     }
 
--- CLEARED. A required service that fails: each service, at each message at which an answer to it is due, rejected and not
--- answered; for service 2 in CONNECT without ALERTING, whatever is said of it. Service 3, not answered, is one of the
--- paper's cases and stands in `Marked`.
+-- CLEARED. A required service that fails: each service, at each message at which an answer to it is due, rejected and
+-- not answered; for service 2 in CONNECT without ALERTING, whatever is said of it. Service 3, not answered, is one of
+-- the paper's cases and stands in `Marked`.
 abbrev pub Cleared : Type 0
 Cleared =
     AllCases

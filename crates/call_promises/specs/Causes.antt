@@ -1,5 +1,5 @@
--- Causes alone: which cause stands in which message. All of it follows from `Sends`, for whatever core keeps that, and is
--- put together here for those who show causes to people.
+-- Causes alone: which cause stands in which message. All of it follows from `Sends`, for whatever core keeps that, and
+-- is put together here for those who show causes to people.
 use Prim.Native.Nat.{ℕ}
 use mathlib.Core.List.{List}
 use mathlib.Core.Bool.{Bool}
@@ -69,7 +69,7 @@ OneCause =
 pub data OwnWord (cause : ℕ) : Event → Side → Type 0 where
   says : {from to : Side} {a : Answers} → to ≡ other from → OwnWord cause (Event.Disconnect from cause a) to
 
--- TWENTY-NINE. "29 .. is for the called user's own clearing message, whose cause is passed on": a message with cause 29 is
+-- TWENTY-NINE. "29 is for the called user's own clearing message, whose cause is passed on": a message with cause 29 is
 -- a DISCONNECT that a user's own DISCONNECT with cause 29 brought, and the box has no 29 of its own.
 abbrev pub TwentyNine : Core → Type 0
 TwentyNine f =

@@ -1,8 +1,8 @@
 -- Causes that the box gives itself.
 use Prim.Native.Nat.{ℕ}
 
--- EN 300 286-1, 9.1.1.2.2, 9.2.1.2 and 9.3.1.1.2, on an explicit rejection of a required service as on no answer: "shall
--- clear the call towards the calling network indicating cause #69"
+-- EN 300 286-1, 9.1.1.2.2, 9.2.1.2 and 9.3.1.1.2, on an explicit rejection of a required service as on no answer:
+-- "shall clear the call towards the calling network indicating cause #69"
 abbrev pub notAccepted : ℕ
 notAccepted = 69
 

@@ -291,8 +291,8 @@ fn limits(page: &mut [u8; 4096]) {
     sets_up(page, b"three octets", rights(1, false, 5), q, b"~\x01\x04");
 }
 
-// A required service that the rights lack; one that is not answered, and one that is rejected: in CONNECT, where the box
-// clears the call, and in the called user's own clearing message, whose cause goes on.
+// A required service that the rights lack; one that is not answered, and one that is rejected: in CONNECT, where the
+// box clears the call, and in the called user's own clearing message, whose cause goes on.
 fn required(page: &mut [u8; 4096]) {
     let two = requests(Request::Unasked, Request::Required, Request::Unasked);
     let three = requests(Request::Unasked, Request::Unasked, Request::Required);
