@@ -7,7 +7,7 @@ use Rattle.services.specs.declared.Given.{Given}
 use Rattle.services.specs.declared.Standing.{Standing}
 use Rattle.services.specs.declared.Standings.{Standings}
 
--- "Accepted: in force. Preferred and not accepted: closed. .. Required and not accepted: DISCONNECT to the caller",
+-- "Accepted: in force. Preferred and not accepted: closed, .. Required and not accepted: DISCONNECT to the caller",
 -- whether it is rejected or nothing is said of it
 -- "Answers .. not asked are ignored; implicit service 1 is due none and stays in force."
 abbrev pub decidedOf : Standing → Given → Fate

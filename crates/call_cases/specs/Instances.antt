@@ -175,14 +175,14 @@ requiring Service.One = setup 7 Request.Required Request.Unasked Request.Unasked
 requiring Service.Two = setup 7 Request.Unasked Request.Required Request.Unasked 131 [] ∷ []
 requiring Service.Three = setup 7 Request.Unasked Request.Unasked Request.Required 131 [] ∷ []
 
-abbrev pub saying : Service → Given → Answers
-saying Service.One g = record { one = g; two = Given.Silent; three = Given.Silent }
-saying Service.Two g = record { one = Given.Silent; two = g; three = Given.Silent }
-saying Service.Three g = record { one = Given.Silent; two = Given.Silent; three = g }
+abbrev pub answering : Service → Given → Answers
+answering Service.One g = record { one = g; two = Given.Silent; three = Given.Silent }
+answering Service.Two g = record { one = Given.Silent; two = g; three = Given.Silent }
+answering Service.Three g = record { one = Given.Silent; two = Given.Silent; three = g }
 
--- both users are cleared by the box: the caller hears 69, the called user 31
-abbrev pub clearing : List Offered → Event → CallCase
-clearing before e =
+-- the box clears the call: the caller hears this cause, and the called user 31
+abbrev pub clearing : ℕ → List Offered → Event → CallCase
+clearing cause before e =
     record {
       before = before;
       event = bare e;
@@ -191,46 +191,67 @@ clearing before e =
             answer = 0;
             note = 0;
             phase = Phase.Clearing;
-            calling = message Kind.Disconnect (Cause.Value 69) false;
+            calling = message Kind.Disconnect (Cause.Value cause) false;
             called = message Kind.Disconnect (Cause.Value 31) false;
           };
     }
 
+-- service 3 is due at CONNECT, also after an ALERTING
+abbrev pub rung : List Offered
+rung = requiring Service.Three ++ (bare (Event.Alerting silent) ∷ [])
+
 -- CLEARED. A required service that fails: each service, at each message at which an answer to it is due, rejected and
--- not answered; for service 2 in CONNECT without ALERTING, whatever is said of it. Service 3, not answered, is one of
--- the paper's cases and stands in `Marked`.
+-- not answered; service 2 in CONNECT without ALERTING, whatever is said of it. Service 3, not answered in a CONNECT
+-- without ALERTING, is one of the paper's cases and stands in `Marked`.
 abbrev pub Cleared : Type 0
 Cleared =
     AllCases
-    (clearing (requiring Service.One) (Event.Alerting (saying Service.One Given.Rejected))
-    ∷ clearing (requiring Service.One) (Event.Alerting silent)
-    ∷ clearing (requiring Service.One) (Event.Connect (saying Service.One Given.Rejected))
-    ∷ clearing (requiring Service.One) (Event.Connect silent)
-    ∷ clearing (requiring Service.Two) (Event.Alerting (saying Service.Two Given.Rejected))
-    ∷ clearing (requiring Service.Two) (Event.Alerting silent)
-    ∷ clearing (requiring Service.Two) (Event.Connect (saying Service.Two Given.Rejected))
-    ∷ clearing (requiring Service.Two) (Event.Connect (saying Service.Two Given.Accepted))
-    ∷ clearing (requiring Service.Two) (Event.Connect silent)
-    ∷ clearing (requiring Service.Three) (Event.Connect (saying Service.Three Given.Rejected))
-    ∷ clearing (requiring Service.Three ++ (bare (Event.Alerting silent) ∷ [])) (Event.Connect (saying Service.Three Given.Rejected))
+    (clearing 69 (requiring Service.One) (Event.Alerting (answering Service.One Given.Rejected))
+    ∷ clearing 69 (requiring Service.One) (Event.Alerting silent)
+    ∷ clearing 69 (requiring Service.One) (Event.Connect (answering Service.One Given.Rejected))
+    ∷ clearing 69 (requiring Service.One) (Event.Connect silent)
+    ∷ clearing 69 (requiring Service.Two) (Event.Alerting (answering Service.Two Given.Rejected))
+    ∷ clearing 69 (requiring Service.Two) (Event.Alerting silent)
+    ∷ clearing 69 (requiring Service.Two) (Event.Connect (answering Service.Two Given.Rejected))
+    ∷ clearing 69 (requiring Service.Two) (Event.Connect (answering Service.Two Given.Accepted))
+    ∷ clearing 69 (requiring Service.Two) (Event.Connect silent)
+    ∷ clearing 69 (requiring Service.Three) (Event.Connect (answering Service.Three Given.Rejected))
+    ∷ clearing 69 rung (Event.Connect (answering Service.Three Given.Rejected))
+    ∷ clearing 69 rung (Event.Connect silent)
     ∷ [])
 
--- the called user rejects a required service in a DISCONNECT of its own
-abbrev pub declining : ℕ → CallCase
-declining cause =
+-- the called user rejects a required service in a DISCONNECT of its own: the cause that it gives, and the caller's
+abbrev pub declining : ℕ → ℕ → CallCase
+declining own heard =
     record {
       before = requiring Service.Three;
-      event = bare (Event.Disconnect Side.Called cause (saying Service.Three Given.Rejected));
+      event = bare (Event.Disconnect Side.Called own (answering Service.Three Given.Rejected));
       gives =
           record {
             answer = 0;
             note = 0;
             phase = Phase.Clearing;
-            calling = message Kind.Disconnect (Cause.Value cause) false;
+            calling = message Kind.Disconnect (Cause.Value heard) false;
             called = nothing;
           };
     }
 
--- MET. Its cause goes on as it is: 29, which `TwentyNine` speaks of, and any other.
+-- the calling user clears, with a cause of its own
+abbrev pub leaving : ℕ → ℕ → CallCase
+leaving own heard =
+    record {
+      before = requiring Service.Three;
+      event = bare (Event.Disconnect Side.Calling own silent);
+      gives =
+          record {
+            answer = 0;
+            note = 0;
+            phase = Phase.Clearing;
+            calling = nothing;
+            called = message Kind.Disconnect (Cause.Value heard) false;
+          };
+    }
+
+-- MET. A user's own cause goes on as it is: 29, which `TwentyNine` speaks of, and any other.
 abbrev pub TwentyNineMet : Type 0
-TwentyNineMet = AllCases (declining 29 ∷ declining 69 ∷ declining 16 ∷ [])
+TwentyNineMet = AllCases (declining 29 29 ∷ declining 69 69 ∷ declining 16 16 ∷ leaving 29 29 ∷ [])

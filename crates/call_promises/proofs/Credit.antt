@@ -112,10 +112,6 @@ and-yes : (b : Bool) → (b && true) ≡ b
 and-yes true = refl
 and-yes false = refl
 
-or-or : (a b c : Bool) → ((a || b) || c) ≡ (a || (b || c))
-or-or true b c = refl
-or-or false b c = refl
-
 and-cond : {A : Type 0} (a b : Bool) (x y : A) → cond (a && b) x y ≡ cond a (cond b x y) y
 and-cond true b x y = refl
 and-cond false b x y = refl

@@ -472,7 +472,7 @@ module _ (c : Call) where
   saidFor f Service.Two = f .two
   saidFor f Service.Three = f .three
 
-  word-is : (side : Side) (a : Answers) (k : Service) → LastWord c side k (answerFor a k) (saidFor (closingFacilitiesOf (c .standings) (c .asking .calling) (heardAnswersOf side a)) k)
+  pub word-is : (side : Side) (a : Answers) (k : Service) → LastWord c side k (answerFor a k) (saidFor (closingFacilitiesOf (c .standings) (c .asking .calling) (heardAnswersOf side a)) k)
   unfolding closingFacilitiesOf silentAnswers
   word-is Side.Calling a Service.One = no-word Service.One (a .one)
   word-is Side.Calling a Service.Two = no-word Service.Two (a .two)

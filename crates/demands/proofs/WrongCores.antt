@@ -1,5 +1,5 @@
 -- Each wrong core differs from ours at some event, in what the demand beside it fixes.
-use Prim.Native.Nat.{ℕ}
+use Prim.Native.Nat.{ℕ, _<_}
 use mathlib.Core.List.{List, [], _∷_}
 use mathlib.Core.Bool.{Bool, true, false}
 use mathlib.Core.Path.{_≡_, refl, sym, _∙_, ap}
@@ -16,6 +16,8 @@ use Rattle.facility_rules.specs.declared.What.{What}
 use Rattle.flow_meter.specs.declared.Meter.{Meter}
 use Rattle.phases.specs.declared.Phase.{Phase}
 use Rattle.answer.specs.Answer.{numberOf}
+use Rattle.message_types.specs.declared.Kind.{Kind}
+use Rattle.sent.specs.declared.Message.{Message}
 use Rattle.sent.specs.declared.Sent.{Sent}
 use Rattle.sent.specs.declared.dispatch.Carrier.{Carrier}
 use Rattle.sent.specs.declared.side.Side.{Side}
@@ -47,10 +49,12 @@ use Rattle.call.specs.Tick.{runsOf, passesTickOf, tickOf}
 use Rattle.call.specs.Disconnect.{endsOf, releaseCompleteOf}
 use Rattle.call_promises.specs.Numbers.{Core}
 use Rattle.call_promises.specs.Refusals.{sentTo, altered}
+use Rattle.call_promises.specs.Causes.{CauseTold, own, fails, fails-too, OwnWord, TwentyNine}
+use Rattle.call_promises.proofs.Causes.{twenty-nine}
 use Rattle.call_promises.specs.Sends.{SendsExactly}
 use Rattle.call_promises.specs.Carriers.{CarriersExactly}
 use Rattle.call_promises.specs.Becomes.{BecomesExactly}
-use Rattle.demands.specs.WrongCores.{refuses, fixed, mute, nods, but, opensBoth, keepsMarks, keepsOpen, creditsOne, says29, never29, never31, leavesAsking, invents, mumbles, returns, forgetsThree, leavesElement, chargesThree, WrongCores}
+use Rattle.demands.specs.WrongCores.{refuses, fixed, mute, nods, but, opensBoth, keepsMarks, keepsOpen, creditsOne, says29, never29, congests29, never31, leavesAsking, invents, mumbles, returns, forgetsThree, leavesElement, chargesThree, WrongCores}
 use Rattle.demands.proofs.Decided.{same-record, same-numbers, same-messages, same-carrier}
 
 -- a call with every right, in some phase, with services and marks as they may be
@@ -227,9 +231,10 @@ record Facts : Type 0 where
   closes : (isClosed (ours unanswered .call .standings .one) ≡ 1) × (isClosed (theirs keepsOpen unanswered .call .standings .one) ≡ 0)
   credits : (ours accepted .call .meters .called .credit ≡ 2) × (theirs creditsOne accepted .call .meters .called .credit ≡ 0)
   fills : (ours ticked .call .meters .calling .credit ≡ 1) × (theirs invents ticked .call .meters .calling .credit ≡ 2)
-  blames : (causeIn (ours rejected .dispatch .calling) ≡ 69) × (causeIn (theirs says29 rejected .dispatch .calling) ≡ 29)
+  fails : (causeIn (ours rejected .dispatch .calling) ≡ 69) × (causeIn (theirs says29 rejected .dispatch .calling) ≡ 29)
   declines : (causeIn (ours declined .dispatch .calling) ≡ 29) × (causeIn (theirs never29 declined .dispatch .calling) ≡ 69)
   clears : (causeIn (ours rejected .dispatch .called) ≡ 31) × (causeIn (theirs never31 rejected .dispatch .called) ≡ 69)
+  congests : causeIn (theirs congests29 unpaid .dispatch .calling) ≡ 29
   warns : (causeIn (ours unpaid .dispatch .calling) ≡ 43) × (causeIn (theirs mumbles unpaid .dispatch .calling) ≡ 128)
   releases : (isSent (ours released .dispatch .called) ≡ 1) × (isSent (theirs returns released .dispatch .called) ≡ 0)
   passes : (threeIn (ours asked .dispatch .called) ≡ 1) × (threeIn (theirs forgetsThree asked .dispatch .called) ≡ 0)
@@ -252,9 +257,10 @@ facts =
       closes = (refl, refl);
       credits = (refl, refl);
       fills = (refl, refl);
-      blames = (refl, refl);
+      fails = (refl, refl);
       declines = (refl, refl);
       clears = (refl, refl);
+      congests = refl;
       warns = (refl, refl);
       releases = (refl, refl);
       passes = (refl, refl);
@@ -272,6 +278,36 @@ by-message f t side look m n p q x d = x (sym p ∙ sym (ap look (same-messages 
 by-carrier : (f : Core) (t : Trial) (m n : ℕ) → bearer (ours t .dispatch .carrier) ≡ m → bearer (f (t .call) (t .event) (t .element) .dispatch .carrier) ≡ n → (m ≡ n → ⊥) → CarriersExactly f → ⊥
 by-carrier f t m n p q x d = x (sym p ∙ sym (ap bearer (same-carrier f d (t .call) (t .event) (t .element))) ∙ q)
 
+-- a message that is sent with a cause
+data Found (s : Sent) (n : ℕ) : Type 0 where
+  found : (m : Message) → s ≡ Sent.Present m → m .cause ≡ Cause.Value n → Found s n
+
+told-in : (x : Cause) (n : ℕ) → n < 128 → from x ≡ n → x ≡ Cause.Value n
+told-in Cause.Absent n h e = absurd (omega arith)
+told-in (Cause.Value k) n h e = ap Cause.Value e
+
+found-in : (s : Sent) (n : ℕ) → n < 128 → causeIn s ≡ n → Found s n
+found-in Sent.Absent n h e = absurd (omega arith)
+found-in (Sent.Present m) n h e = found m refl (told-in (m .cause) n h e)
+
+-- whose word a cause is
+own-cause : {c : Call} {side to : Side} {n : ℕ} {a : Answers} {kind : Kind} {x : Cause} → CauseTold c (Event.Disconnect side n a) to kind x → x ≡ Cause.Value n
+own-cause (own e) = refl
+own-cause (fails x) = absurd (elim x [ ])
+own-cause (fails-too x) = absurd (elim x [ ])
+
+not-alerting : {n : ℕ} {a : Answers} {to : Side} → OwnWord n (Event.Alerting a) to → ⊥
+not-alerting x = elim x [ ]
+
+not-informing : {n : ℕ} {side to : Side} {more : Bool} → OwnWord n (Event.Information side more) to → ⊥
+not-informing x = elim x [ ]
+
+not-failing : TwentyNine (but says29) → ⊥
+not-failing d =
+    elim (found-in (theirs says29 rejected .dispatch .calling) 29 (omega arith) (facts .fails .1)) [
+      found m p q ↦ not-alerting (d (rejected .call) (rejected .event) (rejected .element) Side.Calling m p q .1)
+    ]
+
 pub wrong-cores : WrongCores
 wrong-cores =
     record {
@@ -287,7 +323,7 @@ wrong-cores =
       keepingOpen = by-record (but keepsOpen) unanswered (λ c. isClosed (c .standings .one)) 1 0 (facts .closes .0) (facts .closes .1) (omega arith);
       creditingOne = by-record (but creditsOne) accepted (λ c. c .meters .called .credit) 2 0 (facts .credits .0) (facts .credits .1) (omega arith);
       inventing = by-record (but invents) ticked (λ c. c .meters .calling .credit) 1 2 (facts .fills .0) (facts .fills .1) (omega arith);
-      rejecting = by-message (but says29) rejected Side.Calling causeIn 69 29 (facts .blames .0) (facts .blames .1) (omega arith);
+      sayingTwentyNine = by-message (but says29) rejected Side.Calling causeIn 69 29 (facts .fails .0) (facts .fails .1) (omega arith);
       correcting = by-message (but never29) declined Side.Calling causeIn 29 69 (facts .declines .0) (facts .declines .1) (omega arith);
       blaming = by-message (but never31) rejected Side.Called causeIn 31 69 (facts .clears .0) (facts .clears .1) (omega arith);
       mumbling = by-message (but mumbles) unpaid Side.Calling causeIn 43 128 (facts .warns .0) (facts .warns .1) (omega arith);
@@ -295,4 +331,14 @@ wrong-cores =
       forgetting = by-message (but forgetsThree) asked Side.Called threeIn 1 0 (facts .passes .0) (facts .passes .1) (omega arith);
       leaving = by-message (but leavesElement) cleared Side.Called elementIn 1 0 (facts .rides .0) (facts .rides .1) (omega arith);
       charging = by-carrier (but chargesThree) counted 2 3 (facts .counts .0) (facts .counts .1) (omega arith);
+      misnaming = λ k. not-failing (twenty-nine (but says29) k);
+      misquoting = λ k.
+          elim (found-in (theirs never29 declined .dispatch .calling) 69 (omega arith) (facts .declines .1)) [
+            found m p q ↦ let z : _≡_ {A = ℕ} 69 29 = cc (own-cause (k .each (declined .call) (declined .event) (declined .element) Side.Calling m p .1), q) in omega arith
+          ];
+      failingByTwentyNine = not-failing;
+      congestedByTwentyNine = λ d.
+          elim (found-in (theirs congests29 unpaid .dispatch .calling) 29 (omega arith) (facts .congests)) [
+            found m p q ↦ not-informing (d (unpaid .call) (unpaid .event) (unpaid .element) Side.Calling m p q .1)
+          ];
     }

@@ -29,6 +29,7 @@ use Rattle.table.specs.Choice.{opensOf}
 use Rattle.call_promises.specs.Numbers.{Core, AnswersExactly}
 use Rattle.call_promises.specs.Refusals.{altered}
 use Rattle.call_promises.specs.Sends.{SendsExactly}
+use Rattle.call_promises.specs.Causes.{Causes, TwentyNine}
 use Rattle.call_promises.specs.Carriers.{CarriersExactly}
 use Rattle.call_promises.specs.Becomes.{BecomesExactly}
 
@@ -156,22 +157,28 @@ abbrev pub withCause : Message → Cause → Message
 withCause m cause =
     record { kind = m .kind; cause = cause; level = m .level; said = m .said; more = m .more; element = m .element }
 
--- one cause for another
-abbrev pub inPlaceOf : ℕ → ℕ → Cause → Cause
-inPlaceOf k n Cause.Absent = Cause.Absent
-inPlaceOf k n (Cause.Value m) = Cause.Value (cond (eqb m k) n m)
+-- the cause new wherever it was old
+abbrev pub renamed : ℕ → ℕ → Cause → Cause
+renamed old new Cause.Absent = Cause.Absent
+renamed old new (Cause.Value n) = Cause.Value (cond (eqb n old) new n)
 
 -- the caller hears 29 where a required service fails
 abbrev pub says29 : Call → Reply → Reply
-says29 c r = withSent r (inEach (λ m. withCause m (inPlaceOf 69 29 (m .cause))) (r .dispatch .calling)) (r .dispatch .called)
+says29 c r = withSent r (inEach (λ m. withCause m (renamed 69 29 (m .cause))) (r .dispatch .calling)) (r .dispatch .called)
 
 -- the caller never hears 29: the called user's own goes on as 69
 abbrev pub never29 : Call → Reply → Reply
-never29 c r = withSent r (inEach (λ m. withCause m (inPlaceOf 29 69 (m .cause))) (r .dispatch .calling)) (r .dispatch .called)
+never29 c r = withSent r (inEach (λ m. withCause m (renamed 29 69 (m .cause))) (r .dispatch .calling)) (r .dispatch .called)
 
 -- the called user never hears 31: where a required service fails it hears 69
 abbrev pub never31 : Call → Reply → Reply
-never31 c r = withSent r (r .dispatch .calling) (inEach (λ m. withCause m (inPlaceOf 31 69 (m .cause))) (r .dispatch .called))
+never31 c r = withSent r (r .dispatch .calling) (inEach (λ m. withCause m (renamed 31 69 (m .cause))) (r .dispatch .called))
+
+-- congestion is told with cause 29
+abbrev pub congests29 : Call → Reply → Reply
+congests29 c r =
+    withSent r (inEach (λ m. withCause m (renamed 43 29 (m .cause))) (r .dispatch .calling))
+    (inEach (λ m. withCause m (renamed 43 29 (m .cause))) (r .dispatch .called))
 
 -- congestion is told without its cause
 abbrev pub causeless : Message → Message
@@ -244,7 +251,7 @@ pub record WrongCores : Type 0 where
   pub keepingOpen : BecomesExactly (but keepsOpen) → ⊥
   pub creditingOne : BecomesExactly (but creditsOne) → ⊥
   pub inventing : BecomesExactly (but invents) → ⊥
-  pub rejecting : SendsExactly (but says29) → ⊥
+  pub sayingTwentyNine : SendsExactly (but says29) → ⊥
   pub correcting : SendsExactly (but never29) → ⊥
   pub blaming : SendsExactly (but never31) → ⊥
   pub mumbling : SendsExactly (but mumbles) → ⊥
@@ -252,3 +259,8 @@ pub record WrongCores : Type 0 where
   pub forgetting : SendsExactly (but forgetsThree) → ⊥
   pub leaving : SendsExactly (but leavesElement) → ⊥
   pub charging : CarriersExactly (but chargesThree) → ⊥
+  -- and of the causes alone
+  pub misnaming : Causes (but says29) → ⊥
+  pub misquoting : Causes (but never29) → ⊥
+  pub failingByTwentyNine : TwentyNine (but says29) → ⊥
+  pub congestedByTwentyNine : TwentyNine (but congests29) → ⊥
