@@ -305,7 +305,7 @@ not-informing x = elim x [ ]
 not-failing : TwentyNine (but says29) → ⊥
 not-failing d =
     elim (found-in (theirs says29 rejected .dispatch .calling) 29 (omega arith) (facts .fails .1)) [
-      found m p q ↦ not-alerting (d (rejected .call) (rejected .event) (rejected .element) Side.Calling m p q .1)
+      | found m p q ↦ not-alerting (d (rejected .call) (rejected .event) (rejected .element) Side.Calling m p q .1)
     ]
 
 pub wrong-cores : WrongCores
@@ -334,11 +334,11 @@ wrong-cores =
       misnaming = λ k. not-failing (twenty-nine (but says29) k);
       misquoting = λ k.
           elim (found-in (theirs never29 declined .dispatch .calling) 69 (omega arith) (facts .declines .1)) [
-            found m p q ↦ let z : _≡_ {A = ℕ} 69 29 = cc (own-cause (k .each (declined .call) (declined .event) (declined .element) Side.Calling m p .1), q) in omega arith
+            | found m p q ↦ let z : _≡_ {A = ℕ} 69 29 = cc (own-cause (k .each (declined .call) (declined .event) (declined .element) Side.Calling m p .1), q) in omega arith
           ];
       failingByTwentyNine = not-failing;
       congestedByTwentyNine = λ d.
           elim (found-in (theirs congests29 unpaid .dispatch .calling) 29 (omega arith) (facts .congests)) [
-            found m p q ↦ not-informing (d (unpaid .call) (unpaid .event) (unpaid .element) Side.Calling m p q .1)
+            | found m p q ↦ not-informing (d (unpaid .call) (unpaid .event) (unpaid .element) Side.Calling m p q .1)
           ];
     }
