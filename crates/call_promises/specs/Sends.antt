@@ -130,8 +130,8 @@ pub data TurnedDown (c : Call) (e : Event) (k : Service) : Said → Type 0 where
 
 -- ALERTING and CONNECT. "Required and not accepted: DISCONNECT to the caller .., and to the called user with cause 31
 -- .. Otherwise the message goes on with these answers, and its element if service 1 is in force." Of the caller's cause
--- EN 300 286-1 has for service 1 (9.1.1.2.2), service 2 (9.2.1.2) and service 3 (9.3.1.1.2), where it is rejected, where
--- it is not answered, and for service 2 where no ALERTING came: "shall clear the call towards the calling network
+-- EN 300 286-1 has for service 1 (9.1.1.2.2), service 2 (9.2.1.2) and service 3 (9.3.1.1.2), where it is rejected and
+-- where it is not answered, and for service 2 where no ALERTING came: "shall clear the call towards the calling network
 -- indicating cause #69"
 pub data Answering (c : Call) (l : List ℕ) (e : Event) (kind : Kind) : Side → Message → Type 0 where
   on :
