@@ -1,11 +1,13 @@
 // What an event is answered, the number of each answer and of each note, and the first of 25, 11 and 24 that applies.
+#![tactic(auto)]
+
 ghost use Rattle.std.specs.Prelude.{◌≡◌};
 ghost use Rattle.answer.specs.Answer.{taken_of, first_bar, number_of};
 ghost use Rattle.user_element.specs.Element.{note_number_of};
 
 use user_element::Note;
 
-#[derive(Drop)]
+#[derive(Clone, Copy)]
 pub enum Answer {
     Taken,
     OutOfPhase,

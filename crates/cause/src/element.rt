@@ -7,6 +7,7 @@ use crate::Cause;
 use memory::{Bar, Wrote, write_octets};
 
 // What the body of a Cause element says.
+#[tactic(auto, unfolding(crate::specs::Element::cause_of))]
 pub fn cause_in(body: &[u8]) -> Cause
     ensures { result ≡ cause_of body.now }
 {

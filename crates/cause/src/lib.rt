@@ -1,4 +1,6 @@
 // Causes: the values that the box gives. `element` has what a Cause element says.
+#![tactic(auto)]
+
 pub mod element;
 
 // The called user is told that its own answers cleared the call.
@@ -12,7 +14,7 @@ pub const NOT_ACCEPTED: u8 = 69;
 // The greatest value that a cause can have.
 pub const GREATEST_CAUSE: u8 = 127;
 
-#[derive(Drop)]
+#[derive(Clone, Copy)]
 pub enum Cause {
     Absent,
     Value(u8),

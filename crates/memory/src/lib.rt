@@ -1,4 +1,6 @@
 // Memory that the caller lends: what is put into it or why nothing is, and what is kept of it.
+#![tactic(auto)]
+
 ghost use Rattle.std.specs.Prelude.{◌≡◌, true, ◌≤◌, ◌+◌, length};
 ghost use Rattle.memory.specs.Putting.{end_of};
 ghost use Rattle.memory.specs.Room.{placed, Written, Kept};
@@ -7,14 +9,14 @@ pub mod octet;
 pub mod stretch;
 
 // Why nothing was written.
-#[derive(Drop)]
+#[derive(Clone, Copy)]
 pub enum Bar {
     Room,
     Range,
 }
 
 // Where what was written ends, or why nothing was.
-#[derive(Drop)]
+#[derive(Clone, Copy)]
 pub enum Wrote {
     To(usize),
     Refused(Bar),
@@ -31,6 +33,7 @@ pub fn end_of(w: Wrote) -> usize
 }
 
 // Puts a piece that fits, octet by octet.
+#[tactic(auto, unfolding(crate::specs::Room::placed))]
 fn put(buf: &mut [u8], at: usize, piece: &[u8]) -> usize
     requires { at + length piece.now ≤ length buf.old }
     ensures { (result ≡ at + length piece.now) × (buf.new ≡ placed at piece.now buf.old) }

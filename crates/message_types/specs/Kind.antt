@@ -12,7 +12,7 @@ kind_octet Kind.Setup = 0x05
 kind_octet Kind.Connect = 0x07
 kind_octet Kind.UserInformation = 0x20
 kind_octet Kind.Disconnect = 0x45
-kind_octet Kind.ReleaseComplete = 0x5_a
+kind_octet Kind.ReleaseComplete = 0x5A
 kind_octet Kind.Facility = 0x62
 kind_octet Kind.CongestionControl = 0x79
 
@@ -25,7 +25,7 @@ kind_of x =
     (cond (eqb x 0x07) (Typed.Known Kind.Connect)
     (cond (eqb x 0x20) (Typed.Known Kind.UserInformation)
     (cond (eqb x 0x45) (Typed.Known Kind.Disconnect)
-    (cond (eqb x 0x5_a) (Typed.Known Kind.ReleaseComplete)
+    (cond (eqb x 0x5A) (Typed.Known Kind.ReleaseComplete)
     (cond (eqb x 0x62) (Typed.Known Kind.Facility)
     (cond (eqb x 0x79) (Typed.Known Kind.CongestionControl) Typed.Unknown))))))))
 

@@ -1,8 +1,10 @@
 // The phases of a call, and which of them each event is allowed in.
+#![tactic(auto)]
+
 ghost use Rattle.std.specs.Prelude.{◌≡◌};
 ghost use Rattle.phases.specs.Phase.{fresh_of, requested_of, connectable_of, talking_of, active_of, up_of, live_of};
 
-#[derive(Drop)]
+#[derive(Clone, Copy)]
 pub enum Phase {
     Fresh,
     Requested,

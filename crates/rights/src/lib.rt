@@ -1,4 +1,6 @@
 // The rights of a call, and the ranges of their fields and of a reference.
+#![tactic(auto)]
+
 ghost use Rattle.std.specs.Prelude.{◌≡◌};
 ghost use Rattle.rights.specs.Rights.{has_of, rights_fit_of, reference_fits_of, no_rights};
 
@@ -14,7 +16,7 @@ pub const GREATEST_REFILL: u16 = 255;
 
 const GREATEST_REFERENCE: u16 = 32767;
 
-#[derive(Drop)]
+#[derive(Clone, Copy)]
 pub enum Service {
     One,
     Two,
@@ -22,7 +24,7 @@ pub enum Service {
 }
 
 // services: bit 0 is service 1, bit 1 service 2, bit 2 service 3. burst is X and refill is Y.
-#[derive(Drop)]
+#[derive(Clone, Copy)]
 pub struct Rights {
     pub services: u8,
     pub late: bool,
@@ -43,6 +45,7 @@ pub fn has(r: Rights, s: Service) -> bool
     }
 }
 
+#[tactic(auto, unfolding(crate::specs::Rights::rights_fit_of))]
 pub fn rights_fit(r: Rights) -> bool
     ensures { result ≡ rights_fit_of r }
 {
@@ -53,12 +56,14 @@ pub fn rights_fit(r: Rights) -> bool
     services & limit & burst & refill
 }
 
+#[tactic(auto, unfolding(crate::specs::Rights::reference_fits_of))]
 pub fn reference_fits(n: u16) -> bool
     ensures { result ≡ reference_fits_of n }
 {
     (1 <= n) & (n <= GREATEST_REFERENCE)
 }
 
+#[tactic(auto, unfolding(crate::specs::Rights::no_rights))]
 pub fn no_rights() -> Rights
     ensures { result ≡ no_rights }
 {

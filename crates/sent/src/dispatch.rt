@@ -6,14 +6,14 @@ use crate::Sent;
 use rights::Service;
 
 // The service that carries the event's element; nobody where it does not go out.
-#[derive(Drop)]
+#[derive(Clone, Copy)]
 pub enum Carrier {
     Nobody,
     By(Service),
 }
 
 // calling and called: what goes to the calling and to the called user.
-#[derive(Drop)]
+#[derive(Clone, Copy)]
 pub struct Dispatch {
     pub calling: Sent,
     pub called: Sent,
@@ -21,6 +21,7 @@ pub struct Dispatch {
 }
 
 // Service 1 carries what goes out in SETUP, ALERTING, CONNECT or DISCONNECT.
+#[tactic(auto, unfolding(crate::specs::Dispatch::by_one_of))]
 pub fn by_one(goes: bool) -> Carrier
     ensures { result ≡ by_one_of goes }
 {

@@ -1,5 +1,7 @@
 // A message to one user, as a reply names it: its type, its cause, what it says of services, and whether the element
 // goes out.
+#![tactic(auto)]
+
 ghost use Rattle.std.specs.Prelude.{◌≡◌};
 ghost use Rattle.sent.specs.Message.{saying_of, bare_of, congestion_of, informs_of, only_if_of};
 
@@ -17,7 +19,7 @@ const SILENCE: Facilities = Facilities {
     three: Said::Nothing,
 };
 
-#[derive(Drop)]
+#[derive(Clone, Copy)]
 pub enum Level {
     Absent,
     Ready,
@@ -25,7 +27,7 @@ pub enum Level {
 }
 
 // element: whether the event's element goes out in it.
-#[derive(Drop)]
+#[derive(Clone, Copy)]
 pub struct Message {
     pub kind: Kind,
     pub cause: Cause,
@@ -35,12 +37,13 @@ pub struct Message {
     pub element: bool,
 }
 
-#[derive(Drop)]
+#[derive(Clone, Copy)]
 pub enum Sent {
     Absent,
     Present(Message),
 }
 
+#[tactic(auto, unfolding(crate::specs::Message::saying_of))]
 pub fn saying(kind: Kind, cause: Cause, said: Facilities, element: bool) -> Sent
     ensures { result ≡ saying_of kind cause said element }
 {
@@ -55,6 +58,7 @@ pub fn saying(kind: Kind, cause: Cause, said: Facilities, element: bool) -> Sent
 }
 
 // A message that says nothing of any service and holds no element.
+#[tactic(auto, unfolding(crate::specs::Message::bare_of, crate::specs::Message::silence))]
 pub fn bare(kind: Kind, cause: Cause) -> Sent
     ensures { result ≡ bare_of kind cause }
 {
@@ -62,6 +66,7 @@ pub fn bare(kind: Kind, cause: Cause) -> Sent
 }
 
 // CONGESTION CONTROL, ready or not ready: both with the same cause.
+#[tactic(auto, unfolding(crate::specs::Message::congestion_of, crate::specs::Message::silence))]
 pub fn congestion(level: Level) -> Sent
     ensures { result ≡ congestion_of level }
 {
@@ -76,6 +81,7 @@ pub fn congestion(level: Level) -> Sent
 }
 
 // USER INFORMATION with the event's element.
+#[tactic(auto, unfolding(crate::specs::Message::informs_of, crate::specs::Message::silence))]
 pub fn informs(more: bool) -> Sent
     ensures { result ≡ informs_of more }
 {
@@ -89,6 +95,7 @@ pub fn informs(more: bool) -> Sent
     })
 }
 
+#[tactic(auto, unfolding(crate::specs::Message::only_if_of))]
 pub fn only_if(b: bool, s: Sent) -> Sent
     ensures { result ≡ only_if_of b s }
 {

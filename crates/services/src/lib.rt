@@ -1,16 +1,18 @@
 // What was asked for of each service, what was answered, how the service stands, and what is said of it to a user.
+#![tactic(auto)]
+
 ghost use Rattle.std.specs.Prelude.{◌≡◌};
 ghost use Rattle.services.specs.Standing.{in_force_of, awaits_of, remains_of, no_services};
 
 // What SETUP says of a service.
-#[derive(Drop)]
+#[derive(Clone, Copy)]
 pub enum Request {
     Unasked,
     Preferred,
     Required,
 }
 
-#[derive(Drop)]
+#[derive(Clone, Copy)]
 pub struct Requests {
     pub one: Request,
     pub two: Request,
@@ -18,14 +20,14 @@ pub struct Requests {
 }
 
 // What the called side answers.
-#[derive(Drop)]
+#[derive(Clone, Copy)]
 pub enum Given {
     Silent,
     Accepted,
     Rejected,
 }
 
-#[derive(Drop)]
+#[derive(Clone, Copy)]
 pub struct Answers {
     pub one: Given,
     pub two: Given,
@@ -33,7 +35,7 @@ pub struct Answers {
 }
 
 // How a service stands in a call. A request is open while it is Preferred or Required.
-#[derive(Drop)]
+#[derive(Clone, Copy)]
 pub enum Standing {
     Unasked,
     Preferred,
@@ -42,7 +44,7 @@ pub enum Standing {
     Closed,
 }
 
-#[derive(Drop)]
+#[derive(Clone, Copy)]
 pub struct Standings {
     pub one: Standing,
     pub two: Standing,
@@ -50,7 +52,7 @@ pub struct Standings {
 }
 
 // What a message says of a service.
-#[derive(Drop)]
+#[derive(Clone, Copy)]
 pub enum Said {
     Nothing,
     Preferred,
@@ -61,7 +63,7 @@ pub enum Said {
 }
 
 // What the Facility elements of a message say.
-#[derive(Drop)]
+#[derive(Clone, Copy)]
 pub struct Facilities {
     pub one: Said,
     pub two: Said,
@@ -88,12 +90,14 @@ pub fn awaits(s: Standing) -> bool
 }
 
 // Whether the service remains after SETUP.
+#[tactic(auto, unfolding(crate::specs::Standing::remains_of))]
 pub fn remains(s: Standing) -> bool
     ensures { result ≡ remains_of s }
 {
     in_force(s) | awaits(s)
 }
 
+#[tactic(auto, unfolding(crate::specs::Standing::no_services))]
 pub fn no_services() -> Standings
     ensures { result ≡ no_services }
 {

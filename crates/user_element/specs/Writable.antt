@@ -5,7 +5,7 @@ use Rattle.std.specs.Prelude.{ℕ, ◌-◌, ◌≤◌, List, Bool, true, false, 
 pub record UserElement (u : List ℕ) : Type 0 where
   pub least : 2 ≤ length u
   pub most : length u ≤ 131
-  pub first : get_or u 0 0 ≡ 0x7_e
+  pub first : get_or u 0 0 ≡ 0x7E
   pub second : get_or u 1 0 ≡ length u - 2
 
 -- the same as a test, with "No octets at all is an absent element"
@@ -14,4 +14,4 @@ element_fits_of u =
     cond (eqb (length u) 0) true
     (cond (ltb (length u) 2) false
     (cond (ltb 131 (length u)) false
-    (cond (eqb (get_or u 0 0) 0x7_e) (eqb (get_or u 1 0) (length u - 2)) false)))
+    (cond (eqb (get_or u 0 0) 0x7E) (eqb (get_or u 1 0) (length u - 2)) false)))

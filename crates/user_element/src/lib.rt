@@ -1,4 +1,6 @@
 // The user-user element of an event: what it is seen to be, its note, and whether it goes out.
+#![tactic(auto)]
+
 ghost use Rattle.std.specs.Prelude.{◌≡◌};
 ghost use Rattle.user_element.specs.Element.{well_formed_of, seen_of, whole_of, noted_of, goes_out_of};
 
@@ -11,7 +13,7 @@ const LEAST_ELEMENT: usize = 3;
 // The identifier with which a user-user element begins.
 const USER_USER: u8 = 126;
 
-#[derive(Drop)]
+#[derive(Clone, Copy)]
 pub enum Seen {
     Absent,
     Malformed,
@@ -19,7 +21,7 @@ pub enum Seen {
     Whole,
 }
 
-#[derive(Drop)]
+#[derive(Clone, Copy)]
 pub enum Note {
     Clear,
     Malformed,
@@ -27,6 +29,7 @@ pub enum Note {
     NotCarried,
 }
 
+#[tactic(auto, unfolding(crate::specs::Element::well_formed_of))]
 fn well_formed(e: &[u8]) -> bool
     ensures { result ≡ well_formed_of e.now }
 {
@@ -36,6 +39,7 @@ fn well_formed(e: &[u8]) -> bool
     (e[0] == USER_USER) & (wide(e[1]) == e.len() - 2)
 }
 
+#[tactic(auto, unfolding(crate::specs::Element::seen_of))]
 pub fn look(e: &[u8], limit: u8) -> Seen
     ensures { result ≡ seen_of e.now limit }
 {
@@ -81,6 +85,7 @@ pub fn noted(s: Seen, carried: bool) -> Note
     }
 }
 
+#[tactic(auto, unfolding(crate::specs::Element::goes_out_of))]
 pub fn goes_out(s: Seen, carried: bool) -> bool
     ensures { result ≡ goes_out_of s carried }
 {

@@ -12,5 +12,5 @@ pub fn element_fits(u: &[u8]) -> bool
     if n < 2 {
         return n == 0;
     }
-    (n <= 131) & (u[0] == 0x7_e) & (wide(u[1]) == n - 2)
+    (n <= 131) & (u[0] == 0x7E) & (wide(u[1]) == n - 2)
 }

@@ -18,7 +18,7 @@ element_in_lem u h =
     (λ n.
     let a = if_not (ltb (length u) 2) _ n in
     let b = if_not (ltb 131 (length u)) _ a.1 in
-    let d = if_so (eqb (get_or u 0 0) 0x7_e) _ b.1 in
+    let d = if_so (eqb (get_or u 0 0) 0x7E) _ b.1 in
     inr (record { least = ltb-false _ _ a.0; most = ltb-false _ _ b.0; first = eqb-true _ _ d.0; second = eqb-true _ _ d.1 }))
     (if_yes (eqb (length u) 0) _ h)
 
@@ -55,6 +55,6 @@ pub short : (u : List ℕ) → length u < 2 → eqb (length u) 0 ≡ element_fit
 unfolding element_fits_of
 short u h = simp (lt-ltb (length u) 2 h) (only_empty (eqb (length u) 0))
 
-pub long : (u : List ℕ) (n : ℕ) → n ≡ get_or u 1 0 → 2 ≤ length u → (leb (length u) 131 && eqb (get_or u 0 0) 0x7_e) && eqb n (length u - 2) ≡ element_fits_of u
+pub long : (u : List ℕ) (n : ℕ) → n ≡ get_or u 1 0 → 2 ≤ length u → (leb (length u) 131 && eqb (get_or u 0 0) 0x7E) && eqb n (length u - 2) ≡ element_fits_of u
 unfolding element_fits_of
-long u n e h = simp (e, ne_eqb (length u) 0 (λ z. omega arith), le-ltb (length u) 2 h, within (length u) _ refl) (in_order (leb (length u) 131) (eqb (get_or u 0 0) 0x7_e) (eqb (get_or u 1 0) (length u - 2)))
+long u n e h = simp (e, ne_eqb (length u) 0 (λ z. omega arith), le-ltb (length u) 2 h, within (length u) _ refl) (in_order (leb (length u) 131) (eqb (get_or u 0 0) 0x7E) (eqb (get_or u 1 0) (length u - 2)))
