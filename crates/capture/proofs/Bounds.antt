@@ -108,7 +108,7 @@ one_more (Facility.Says c) cs p q = (p, q)
 small_components : (es : List Element) → AllSmall (components es)
 unfolding components
 small_components [] = tt
-small_components (e ∷ es) = by_cond AllSmall (eqb e.id 0x1_c) (λ t. one_more (facility_of e.body) _ (body_says e.body) (small_components es)) (λ t. small_components es)
+small_components (e ∷ es) = by_cond AllSmall (eqb e.id 0x1C) (λ t. one_more (facility_of e.body) _ (body_says e.body) (small_components es)) (λ t. small_components es)
 
 three : (cs : List Component) → AllSmall cs → FacilitiesIn (first_three cs)
 three [] h = tt

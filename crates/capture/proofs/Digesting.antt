@@ -67,8 +67,8 @@ module _ {c : List ℕ} {offset : ℕ} {l out : List ℕ} {i k : ℕ} (g : Going
         rw (get_or-drop i c 0 0, get_or-drop i c 1 0, z) (sym size)
 
     -- the piece ends inside a message
-    pub stop-inside : length c - (i + 2) < n → Digested c offset l out (record { used = i; wrote = k })
-    stop-inside h = stop_short (rw size_is (omega arith))
+    pub stop_inside : length c - (i + 2) < n → Digested c offset l out (record { used = i; wrote = k })
+    stop_inside h = stop_short (rw size_is (omega arith))
 
     -- its first message
     module _ (whole : i + 2 + n ≤ length c) where
@@ -78,13 +78,13 @@ module _ {c : List ℕ} {offset : ℕ} {l out : List ℕ} {i k : ℕ} (g : Going
       abbrev pub line : List ℕ
       line = line_of (later_of offset (i + 2)) (take (i + 2 + n - (i + 2)) (drop (i + 2) c))
 
-      line-is : line_at frame ≡ line
-      line-is =
+      line_is : line_at frame ≡ line
+      line_is =
           let m : i + 2 + n - (i + 2) ≡ n = omega arith in
           rw (later_later offset i 2, size_is, drop-drop 2 i c, m)
 
-      octets-are : length frame.octets ≡ n
-      octets-are = rw (size_is, drop-drop 2 i c) (length-take-le n (drop (i + 2) c) (rw length-drop (omega arith)))
+      octets_are : length frame.octets ≡ n
+      octets_are = rw (size_is, drop-drop 2 i c) (length-take-le n (drop (i + 2) c) (rw length-drop (omega arith)))
 
       turn : frames_of (later_of offset i) (drop i c) ≡ frame ∷ frames_of (later_of offset (i + 2 + n)) (drop (i + 2 + n) c)
       turn =
@@ -92,11 +92,11 @@ module _ {c : List ℕ} {offset : ℕ} {l out : List ℕ} {i k : ℕ} (g : Going
           frames_turn (later_of offset i) (drop i c) (rw (size_is, length-drop) (omega arith))
           ∙ ap (λ (fs : List Frame). frame ∷ fs) (rw (size_is, later_later offset i (2 + n), drop-drop (2 + n) i c, a))
 
-      pub stop-full : {b : Bar} {out' : List ℕ} → Written true k line out out' (Wrote.Refused b) → Digested c offset l out' (record { used = i; wrote = k })
+      pub stop_full : {b : Bar} {out' : List ℕ} → Written true k line out out' (Wrote.Refused b) → Digested c offset l out' (record { used = i; wrote = k })
       unfolding fitting
-      stop-full w =
+      stop_full w =
           let r = refused w in
-          let n = ap length line-is in
+          let n = ap length line_is in
           rw r.1 (stop g (rw turn (simp (lt-leb (length (line_at frame)) (length out - k) (omega (arith, g.room, r.0))))))
 
       module _ {e : ℕ} {out' : List ℕ} (w : Written true k line out out' (Wrote.To e)) where
@@ -107,25 +107,25 @@ module _ {c : List ℕ} {offset : ℕ} {l out : List ℕ} {i k : ℕ} (g : Going
         unfolding fitting
         next =
             let r = took w in
-            let m = ap length line-is in
+            let m = ap length line_is in
             let a = as_long in
             let left : length out - k - length (line_at frame) ≡ length out' - e = omega (arith, r.1) in
             rw turn (simp (le-leb (length (line_at frame)) (length out - k) (omega (arith, r.0)), left))
 
-        then-placed : (q : List ℕ) → placed e q out' ≡ placed k (line_at frame ++ q) out
-        then-placed q = let r = took w in rw (r.1, r.2, placed_then k line out r.0 q, line-is)
+        then_placed : (q : List ℕ) → placed e q out' ≡ placed k (line_at frame ++ q) out
+        then_placed q = let r = took w in rw (r.1, r.2, placed_then k line out r.0 q, line_is)
 
         pub go_on : Going c offset l out' (i + 2 + n) e
         unfolding lines_of span_of
         go_on =
             let r = took w in
-            let m = ap length line-is in
+            let m = ap length line_is in
             let a = as_long in
             record {
               within = whole;
               room = omega (arith, r.0, r.1);
               long = a ∙ g.long;
-              used = omega (arith, octets-are, rw next at g.used);
+              used = omega (arith, octets_are, rw next at g.used);
               wrote = omega (arith, r.1, simp length-append at (rw next at g.wrote));
-              buffer = then-placed (lines_of (to_come c offset out' (i + 2 + n) e)) ∙ (rw next at g.buffer);
+              buffer = then_placed (lines_of (to_come c offset out' (i + 2 + n) e)) ∙ (rw next at g.buffer);
             }

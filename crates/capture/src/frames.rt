@@ -7,7 +7,7 @@ use memory::Wrote;
 use message_line::write_line;
 
 // How many octets of a piece of capture were used, and how many octets of lines were written.
-#[derive(Drop)]
+#[derive(Clone, Copy)]
 pub struct Done {
     pub used: usize,
     pub wrote: usize,

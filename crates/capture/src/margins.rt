@@ -6,6 +6,7 @@ ghost use Rattle.capture.specs.Margins.{later_of, first_line, last_line};
 use memory::{Wrote, write_octets};
 
 // The offset that lies so many octets after another; past the largest number, that number.
+#[tactic(auto, unfolding(crate::specs::Margins::later_of))]
 pub fn later(offset: u64, n: usize) -> u64
     ensures { result ≡ later_of offset n }
 {
@@ -36,6 +37,7 @@ pub fn write_first(buf: &mut [u8], at: usize) -> Wrote
 }
 
 // Writes the line that comes after all others where so many octets were left at the capture's end: none, or `cut`.
+#[tactic(auto, unfolding(crate::specs::Margins::last_line))]
 pub fn write_last(buf: &mut [u8], at: usize, left: usize) -> Wrote
     ensures { Written true at (last_line left) buf.old buf.new result }
 {

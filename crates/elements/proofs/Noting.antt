@@ -50,14 +50,14 @@ module _ (h : Header) (f : Found) (e : Element) where
   unfolding reading_from first_single first_cause first_place components single_of
   adds_cause i = record { same = λ es. simp (i, cause_law f.cause e.body (first_cause es)) }
 
-  pub adds_facility : e.id ≡ 0x1_c → Adds h f e (record { single = f.single; cause = f.cause; facility = note_facility f.facility (facility_of e.body); user = f.user })
+  pub adds_facility : e.id ≡ 0x1C → Adds h f e (record { single = f.single; cause = f.cause; facility = note_facility f.facility (facility_of e.body); user = f.user })
   unfolding reading_from first_single first_cause first_place components single_of
   adds_facility i = record { same = λ es. simp (i, facility_law f.facility (facility_of e.body) (components es)) }
 
-  pub adds_place : e.id ≡ 0x7_e → Adds h f e (record { single = f.single; cause = f.cause; facility = f.facility; user = note_place f.user e.at (length e.body + 2) })
+  pub adds_place : e.id ≡ 0x7E → Adds h f e (record { single = f.single; cause = f.cause; facility = f.facility; user = note_place f.user e.at (length e.body + 2) })
   unfolding reading_from first_single first_cause first_place components single_of
   adds_place i = record { same = λ es. simp (i, place_law f.user e.at (length e.body + 2) (first_place es)) }
 
-  pub adds_single : (e.id ≡ 0x08 → ⊥) → (e.id ≡ 0x1_c → ⊥) → (e.id ≡ 0x7_e → ⊥) → Adds h f e (record { single = or_single f.single (single_of h.kind e.id); cause = f.cause; facility = f.facility; user = f.user })
+  pub adds_single : (e.id ≡ 0x08 → ⊥) → (e.id ≡ 0x1C → ⊥) → (e.id ≡ 0x7E → ⊥) → Adds h f e (record { single = or_single f.single (single_of h.kind e.id); cause = f.cause; facility = f.facility; user = f.user })
   unfolding reading_from first_single first_cause first_place components
   adds_single a b c = record { same = λ es. simp (ne_eqb _ _ a, ne_eqb _ _ b, ne_eqb _ _ c, single_law f.single (single_of h.kind e.id) (first_single h.kind es)) }

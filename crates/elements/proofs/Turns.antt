@@ -116,34 +116,34 @@ module _ (h : Header) where
 
   -- the same at a place of m
   module _ (m : List ℕ) (i e : ℕ) (f : Found) (t : Ended m i e) where
-    pub on-pass : (pass : Bool) → pass ≡ true → going_on h false f (elements e 0 (drop e m)) ≡ going_on h pass f (elements i 0 (drop i m))
-    on-pass pass p = rw (p, t.turn) (passes f (between m i e) (elements e 0 (drop e m)))
+    pub on_pass : (pass : Bool) → pass ≡ true → going_on h false f (elements e 0 (drop e m)) ≡ going_on h pass f (elements i 0 (drop i m))
+    on_pass pass p = rw (p, t.turn) (passes f (between m i e) (elements e 0 (drop e m)))
 
-    pub on-lock : (pass : Bool) → pass ≡ false → 144 ≤ get_or m i 0 → get_or m i 0 < 152 → locked h f (elements e 0 (drop e m)) ≡ going_on h pass f (elements i 0 (drop i m))
-    on-lock pass p a b = rw (p, t.turn) (locks f (between m i e) (elements e 0 (drop e m)) a b)
+    pub on_lock : (pass : Bool) → pass ≡ false → 144 ≤ get_or m i 0 → get_or m i 0 < 152 → locked h f (elements e 0 (drop e m)) ≡ going_on h pass f (elements i 0 (drop i m))
+    on_lock pass p a b = rw (p, t.turn) (locks f (between m i e) (elements e 0 (drop e m)) a b)
 
-    pub on-shift : (pass : Bool) → pass ≡ false → 152 ≤ get_or m i 0 → get_or m i 0 < 160 → going_on h true f (elements e 0 (drop e m)) ≡ going_on h pass f (elements i 0 (drop i m))
-    on-shift pass p a b = rw (p, t.turn) (shifts f (between m i e) (elements e 0 (drop e m)) a b)
+    pub on_shift : (pass : Bool) → pass ≡ false → 152 ≤ get_or m i 0 → get_or m i 0 < 160 → going_on h true f (elements e 0 (drop e m)) ≡ going_on h pass f (elements i 0 (drop i m))
+    on_shift pass p a b = rw (p, t.turn) (shifts f (between m i e) (elements e 0 (drop e m)) a b)
 
-    pub on-note : (pass : Bool) (g : Found) → pass ≡ false → Adds h f (between m i e) g → (get_or m i 0 < 144) ⊎ (160 ≤ get_or m i 0) → going_on h pass g (elements e 0 (drop e m)) ≡ going_on h pass f (elements i 0 (drop i m))
-    on-note pass g p a b = rw (p, t.turn) (notes f g (between m i e) (elements e 0 (drop e m)) a b)
+    pub on_note : (pass : Bool) (g : Found) → pass ≡ false → Adds h f (between m i e) g → (get_or m i 0 < 144) ⊎ (160 ≤ get_or m i 0) → going_on h pass g (elements e 0 (drop e m)) ≡ going_on h pass f (elements i 0 (drop i m))
+    on_note pass g p a b = rw (p, t.turn) (notes f g (between m i e) (elements e 0 (drop e m)) a b)
 
   -- the ways out
   module _ (m : List ℕ) (i : ℕ) (f : Found) where
-    pub out-cut : (pass : Bool) → elements i 0 (drop i m) ≡ cut → Read.Refused Fault.Short ≡ going_on h pass f (elements i 0 (drop i m))
+    pub out_cut : (pass : Bool) → elements i 0 (drop i m) ≡ cut → Read.Refused Fault.Short ≡ going_on h pass f (elements i 0 (drop i m))
     unfolding going_on
-    out-cut pass c = rw c refl
+    out_cut pass c = rw c refl
 
-    pub out-end : (pass : Bool) → length m ≤ i → locked h f (elements i 0 (drop i m)) ≡ going_on h pass f (elements i 0 (drop i m))
+    pub out_end : (pass : Bool) → length m ≤ i → locked h f (elements i 0 (drop i m)) ≡ going_on h pass f (elements i 0 (drop i m))
     unfolding going_on locked counted
-    out-end pass c = rw (none_left m i c) (sym (at_last h f))
+    out_end pass c = rw (none_left m i c) (sym (at_last h f))
 
   -- past the scan every part is there, or not
   module _ (f : Found) (s : Split) where
-    pub out-short : is_whole s ≡ false → Read.Refused Fault.Short ≡ locked h f s
+    pub out_short : is_whole s ≡ false → Read.Refused Fault.Short ≡ locked h f s
     unfolding locked
-    out-short c = rw c refl
+    out_short c = rw c refl
 
-    pub out-whole : is_whole s ≡ true → taken_with h f ≡ locked h f s
+    pub out_whole : is_whole s ≡ true → taken_with h f ≡ locked h f s
     unfolding locked
-    out-whole c = rw c refl
+    out_whole c = rw c refl

@@ -41,7 +41,7 @@ locking e = leb 0x90 e.id && leb e.id 0x97
 
 -- "A non-locking shift (98 to 9F) makes the next element, a shift too, passed over"
 abbrev pub shifting : Element → Bool
-shifting e = leb 0x98 e.id && leb e.id 0x9_f
+shifting e = leb 0x98 e.id && leb e.id 0x9F
 
 -- the elements that the scan looks at (pass: the first of them is passed over)
 unfoldable pub counted : Bool → List Element → List Element

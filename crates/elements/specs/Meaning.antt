@@ -28,7 +28,7 @@ first_cause (e ∷ es) = cond (eqb e.id 0x08) (cause_of e.body) (first_cause es)
 -- "The first User-user element counts": where it starts, and how many octets it has with its first two
 unfoldable pub first_place : List Element → Place
 first_place [] = Place.Absent
-first_place (e ∷ es) = cond (eqb e.id 0x7_e) (Place.At e.at (length e.body + 2)) (first_place es)
+first_place (e ∷ es) = cond (eqb e.id 0x7E) (Place.At e.at (length e.body + 2)) (first_place es)
 
 -- what the Facility elements say that can be read, in order
 abbrev pub and_says : Facility → List Component → List Component
@@ -37,7 +37,7 @@ and_says (Facility.Says c) cs = c ∷ cs
 
 unfoldable pub components : List Element → List Component
 components [] = []
-components (e ∷ es) = cond (eqb e.id 0x1_c) (and_says (facility_of e.body) (components es)) (components es)
+components (e ∷ es) = cond (eqb e.id 0x1C) (and_says (facility_of e.body) (components es)) (components es)
 
 -- "and the first three Facility elements in order"
 abbrev pub first_three : List Component → Facilities

@@ -20,9 +20,9 @@ level_in Class.Congestion s = s
 -- "More data A0, Congestion level B0 (ready) and BF (not ready)"
 unfoldable pub single_of : Kind → ℕ → Single
 single_of k x =
-    cond (eqb x 0x_a0) (more_in (class_of k))
-    (cond (eqb x 0x_b0) (level_in (class_of k) Single.Ready)
-    (cond (eqb x 0x_bf) (level_in (class_of k) Single.NotReady) Single.Absent))
+    cond (eqb x 0xA0) (more_in (class_of k))
+    (cond (eqb x 0xB0) (level_in (class_of k) Single.Ready)
+    (cond (eqb x 0xBF) (level_in (class_of k) Single.NotReady) Single.Absent))
 
 abbrev pub or_single : Single → Single → Single
 or_single Single.Absent s = s

@@ -1,4 +1,6 @@
 // The elements of a message: one pass over its octets, and no octet of it is copied.
+#![tactic(auto)]
+
 ghost use Rattle.std.specs.Prelude.{◌≡◌, ◌<◌, ◌≤◌, ◌+◌, length, get_or, drop};
 ghost use Rattle.elements.specs.Elements.{Ends, between, elements, is_whole};
 ghost use Rattle.elements.specs.Meaning.{taken_from};
@@ -14,7 +16,7 @@ mod single;
 pub mod so_far;
 
 // Where the element at a place ends, if it does.
-#[derive(Drop)]
+#[derive(Clone, Copy)]
 enum End {
     To(usize),
     Cut,
@@ -55,13 +57,13 @@ fn note(h: Header, f: Found, m: &[u8], i: usize, e: usize) -> Found
             facility: facility,
             user: user,
         },
-        0x1_c => Found {
+        0x1C => Found {
             single: single,
             cause: cause,
             facility: with_facility(facility, facility_in(&m[i + 2..e])),
             user: user,
         },
-        0x7_e => Found {
+        0x7E => Found {
             single: single,
             cause: cause,
             facility: facility,
@@ -135,7 +137,7 @@ pub fn scan(m: &[u8], start: usize, h: Header) -> Read
                 0x90..=0x97 => {
                     break 'scan;
                 }
-                0x98..=0x9_f => {
+                0x98..=0x9F => {
                     pass = true;
                 }
                 _ => {

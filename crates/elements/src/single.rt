@@ -28,14 +28,15 @@ fn level_in(c: Class, level: Single) -> Single
 }
 
 // What a single octet says in a message of this kind.
+#[tactic(auto, unfolding(crate::specs::Single::single_of))]
 pub(crate) fn single_in(k: Kind, x: u8) -> Single
     ensures { result ≡ single_of k x }
 {
     let class = class_of(k);
     match x {
-        0x_a0 => more_in(class),
-        0x_b0 => level_in(class, Single::Ready),
-        0x_bf => level_in(class, Single::NotReady),
+        0xA0 => more_in(class),
+        0xB0 => level_in(class, Single::Ready),
+        0xBF => level_in(class, Single::NotReady),
         _ => Single::Absent,
     }
 }

@@ -8,14 +8,14 @@ use facility::Facility;
 use message_fields::{Facilities, Place, Single};
 
 // Whether a Cause element was met, and what the first one says.
-#[derive(Drop)]
+#[derive(Clone, Copy)]
 pub enum Seen {
     Unseen,
     First(Cause),
 }
 
 // What the scan has found so far.
-#[derive(Drop)]
+#[derive(Clone, Copy)]
 pub struct Found {
     pub single: Single,
     pub cause: Seen,

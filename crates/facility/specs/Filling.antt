@@ -15,7 +15,7 @@ filled (blank ∷ f) (v ∷ vs) = v ∷ filled f vs
 
 -- TRUE is written FF
 abbrev pub wish_octet : Wish → ℕ
-wish_octet Wish.Preferred = 0x_ff
+wish_octet Wish.Preferred = 0xFF
 wish_octet Wish.Required = 0
 
 abbrev pub refusal_octet : Refusal → ℕ
@@ -30,4 +30,4 @@ body_of (Component.Rejected id e) = filled error_form (id ∷ refusal_octet e �
 
 -- the whole element
 abbrev pub facility_octets : Component → List ℕ
-facility_octets c = 0x1_c ∷ length (body_of c) ∷ body_of c
+facility_octets c = 0x1C ∷ length (body_of c) ∷ body_of c

@@ -21,13 +21,13 @@ slot_of x = cond (eqb x 0) blank (is x)
 -- operation value 1, the service and whether it is preferred, and for an error its value
 abbrev pub invoke_form : List Slot
 invoke_form =
-    is 0x91 ∷ is 0x_a1 ∷ is 14 ∷ is 2 ∷ is 1 ∷ blank ∷ is 2 ∷ is 1 ∷ is 1 ∷ is 0x30 ∷ is 6 ∷ is 0x81 ∷ is 1 ∷ blank ∷ is 0x82 ∷ is 1 ∷ blank ∷ []
+    is 0x91 ∷ is 0xA1 ∷ is 14 ∷ is 2 ∷ is 1 ∷ blank ∷ is 2 ∷ is 1 ∷ is 1 ∷ is 0x30 ∷ is 6 ∷ is 0x81 ∷ is 1 ∷ blank ∷ is 0x82 ∷ is 1 ∷ blank ∷ []
 
 abbrev pub result_form : List Slot
-result_form = is 0x91 ∷ is 0x_a2 ∷ is 3 ∷ is 2 ∷ is 1 ∷ blank ∷ []
+result_form = is 0x91 ∷ is 0xA2 ∷ is 3 ∷ is 2 ∷ is 1 ∷ blank ∷ []
 
 abbrev pub error_form : List Slot
-error_form = is 0x91 ∷ is 0x_a3 ∷ is 6 ∷ is 2 ∷ is 1 ∷ blank ∷ is 2 ∷ is 1 ∷ blank ∷ []
+error_form = is 0x91 ∷ is 0xA3 ∷ is 6 ∷ is 2 ∷ is 1 ∷ blank ∷ is 2 ∷ is 1 ∷ blank ∷ []
 
 -- how many octets a form has
 unfoldable pub size : List Slot → ℕ
@@ -55,7 +55,7 @@ service_of x =
 unfoldable pub wish_of : ℕ → Wish
 wish_of x = cond (eqb x 0) Wish.Required Wish.Preferred
 
--- error 1 is rejected_by_network, error 2 rejected_by_user
+-- error 1 is rejectedByNetwork, error 2 rejectedByUser
 unfoldable pub refusal_of : ℕ → Told
 refusal_of x =
     cond (eqb x 1) (Told.Refusal Refusal.ByNetwork)

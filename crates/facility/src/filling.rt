@@ -21,7 +21,7 @@ fn wish_octet(w: Wish) -> u8
     ensures { result ≡ wish_octet w }
 {
     match w {
-        Wish::Preferred => 0x_ff,
+        Wish::Preferred => 0xFF,
         Wish::Required => 0,
     }
 }
@@ -36,17 +36,19 @@ fn refusal_octet(e: Refusal) -> u8
 }
 
 // The element of a request: the service that is asked for, and whether it is preferred or required.
+#[tactic(auto, unfolding(crate::specs::Filling::filled))]
 fn invoke_octets(id: u8, s: Service, w: Wish) -> [u8; 19]
     ensures { result ≡ facility_octets (Component.Invoke id s w) }
 {
     let service = service_octet(s);
     let wish = wish_octet(w);
     [
-        0x1_c, 17, 0x91, 0x_a1, 14, 2, 1, id, 2, 1, 1, 0x30, 6, 0x81, 1, service, 0x82, 1, wish,
+        0x1C, 17, 0x91, 0xA1, 14, 2, 1, id, 2, 1, 1, 0x30, 6, 0x81, 1, service, 0x82, 1, wish,
     ]
 }
 
 // Writes the whole element.
+#[tactic(auto, unfolding(crate::specs::Filling::filled))]
 pub fn write_facility(buf: &mut [u8], at: usize, c: Component) -> Wrote
     ensures { Written (component_fits c) at (facility_octets c) buf.old buf.new result }
 {
@@ -59,12 +61,12 @@ pub fn write_facility(buf: &mut [u8], at: usize, c: Component) -> Wrote
             write_octets(buf, at, &element)
         }
         Component::Accepted(id) => {
-            let element = [0x1_c, 6, 0x91, 0x_a2, 3, 2, 1, id];
+            let element = [0x1C, 6, 0x91, 0xA2, 3, 2, 1, id];
             write_octets(buf, at, &element)
         }
         Component::Rejected(id, e) => {
             let error = refusal_octet(e);
-            let element = [0x1_c, 9, 0x91, 0x_a3, 6, 2, 1, id, 2, 1, error];
+            let element = [0x1C, 9, 0x91, 0xA3, 6, 2, 1, id, 2, 1, error];
             write_octets(buf, at, &element)
         }
     }

@@ -5,19 +5,20 @@ ghost use Rattle.facility.specs.Forms.{slot_of, spells, service_of, wish_of, ref
 use crate::{Component, Facility, Refusal, Service, Wish};
 
 // The service that an octet names, if it names one.
-#[derive(Drop)]
+#[derive(Clone, Copy)]
 enum Named {
     Nothing,
     Service(Service),
 }
 
 // The error that an octet names, if it names one.
-#[derive(Drop)]
+#[derive(Clone, Copy)]
 enum Told {
     Nothing,
     Refusal(Refusal),
 }
 
+#[tactic(auto, unfolding(crate::specs::Forms::service_of))]
 fn service_in(x: u8) -> Named
     ensures { result ≡ service_of x }
 {
@@ -29,6 +30,7 @@ fn service_in(x: u8) -> Named
     }
 }
 
+#[tactic(auto, unfolding(crate::specs::Forms::wish_of))]
 fn wish_in(x: u8) -> Wish
     ensures { result ≡ wish_of x }
 {
@@ -39,6 +41,7 @@ fn wish_in(x: u8) -> Wish
     }
 }
 
+#[tactic(auto, unfolding(crate::specs::Forms::refusal_of))]
 fn refusal_in(x: u8) -> Told
     ensures { result ≡ refusal_of x }
 {
@@ -94,6 +97,7 @@ fn numbered(b: &[u8], form: &[u8]) -> bool
     if spelt(b, form) { b[5] < 128 } else { false }
 }
 
+#[tactic(auto, unfolding(crate::specs::Forms::invoke_of, crate::specs::Forms::size))]
 fn invoke_in(b: &[u8]) -> Facility
     ensures { result ≡ invoke_of b.now }
 {
@@ -107,6 +111,7 @@ fn invoke_in(b: &[u8]) -> Facility
     }
 }
 
+#[tactic(auto, unfolding(crate::specs::Forms::result_of, crate::specs::Forms::size))]
 fn result_in(b: &[u8]) -> Facility
     ensures { result ≡ result_of b.now }
 {
@@ -117,6 +122,7 @@ fn result_in(b: &[u8]) -> Facility
     }
 }
 
+#[tactic(auto, unfolding(crate::specs::Forms::error_of, crate::specs::Forms::size))]
 fn error_in(b: &[u8]) -> Facility
     ensures { result ≡ error_of b.now }
 {
@@ -128,6 +134,7 @@ fn error_in(b: &[u8]) -> Facility
 }
 
 // What the body of a Facility element says, by the form that it has.
+#[tactic(auto, unfolding(crate::specs::Forms::facility_of))]
 pub fn facility_in(body: &[u8]) -> Facility
     ensures { result ≡ facility_of body.now }
 {

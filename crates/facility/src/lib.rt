@@ -1,39 +1,41 @@
 // What a Facility element says: one component, and whether its invoke number is in range. `forms` reads its body,
 // `filling` writes the element.
+#![tactic(auto)]
+
 ghost use Rattle.std.specs.Prelude.{◌≡◌};
 ghost use Rattle.facility.specs.Facility.{component_fits};
 
 pub mod filling;
 pub mod forms;
 
-#[derive(Drop)]
+#[derive(Clone, Copy)]
 pub enum Service {
     One,
     Two,
     Three,
 }
 
-#[derive(Drop)]
+#[derive(Clone, Copy)]
 pub enum Wish {
     Preferred,
     Required,
 }
 
-#[derive(Drop)]
+#[derive(Clone, Copy)]
 pub enum Refusal {
     ByNetwork,
     ByUser,
 }
 
 // A component, each with its invoke number: a service asked for, accepted, or rejected.
-#[derive(Drop)]
+#[derive(Clone, Copy)]
 pub enum Component {
     Invoke(u8, Service, Wish),
     Accepted(u8),
     Rejected(u8, Refusal),
 }
 
-#[derive(Drop)]
+#[derive(Clone, Copy)]
 pub enum Facility {
     Absent,
     Says(Component),

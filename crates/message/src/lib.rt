@@ -1,4 +1,6 @@
 // A whole message read: its header, and then its elements; numbers 1 to 5. No octet of it is copied.
+#![tactic(auto)]
+
 ghost use Rattle.std.specs.Prelude.{◌≡◌, ◌<◌};
 ghost use Rattle.message.specs.Reading.{reference_of, headed_of, read_of};
 
@@ -41,6 +43,7 @@ fn headed(m: &[u8], w: Width) -> Read
     }
 }
 
+#[tactic(auto, unfolding(crate::specs::Reading::read_of))]
 pub fn read_message(m: &[u8]) -> Read
     ensures { result ≡ read_of m.now }
 {

@@ -17,6 +17,7 @@ pub fn part<'a>(m: &'a [u8], place: Place) -> &'a [u8]
 }
 
 // The whole user-user element, as the very part of the message; empty where there is none or the message is refused.
+#[tactic(auto, unfolding(crate::specs::Parts::user_user_of))]
 pub fn user_user<'a>(m: &'a [u8]) -> &'a [u8]
     ensures { result.now ≡ user_user_of m.now }
 {

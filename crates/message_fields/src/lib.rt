@@ -1,5 +1,7 @@
 // The fields of a message by value, and what reading one gives: these and the place of its user-user element, or a
 // fault.
+#![tactic(auto)]
+
 ghost use Rattle.std.specs.Prelude.{◌≡◌, ◌≤◌};
 ghost use Rattle.message_fields.specs.Width.{width_of};
 
@@ -8,7 +10,7 @@ use facility::Component;
 use message_types::Kind;
 
 // How many octets the call reference has.
-#[derive(Drop)]
+#[derive(Clone, Copy)]
 pub enum Width {
     One,
     Two,
@@ -24,7 +26,7 @@ pub fn width_size(w: Width) -> usize
 }
 
 // The elements of a single octet that belong to us.
-#[derive(Drop)]
+#[derive(Clone, Copy)]
 pub enum Single {
     Absent,
     MoreData,
@@ -33,7 +35,7 @@ pub enum Single {
 }
 
 // What the Facility elements say: at most three components, in order.
-#[derive(Drop)]
+#[derive(Clone, Copy)]
 pub enum Facilities {
     Zero,
     One(Component),
@@ -41,7 +43,7 @@ pub enum Facilities {
     Three(Component, Component, Component),
 }
 
-#[derive(Drop)]
+#[derive(Clone, Copy)]
 pub struct Header {
     pub width: Width,
     pub flag: bool,
@@ -50,7 +52,7 @@ pub struct Header {
 }
 
 // A message but for its user-user element, which is never copied.
-#[derive(Drop)]
+#[derive(Clone, Copy)]
 pub struct Message {
     pub header: Header,
     pub single: Single,
@@ -59,14 +61,14 @@ pub struct Message {
 }
 
 // Where the user-user element stands in a message: its first octet, and how many octets it has.
-#[derive(Drop)]
+#[derive(Clone, Copy)]
 pub enum Place {
     Absent,
     At(usize, usize),
 }
 
 // A message that was taken, and where its user-user element stands.
-#[derive(Drop)]
+#[derive(Clone, Copy)]
 pub struct Reading {
     pub message: Message,
     pub user: Place,
@@ -74,7 +76,7 @@ pub struct Reading {
 
 // Why a message is refused: it ends too early, is too long, begins with another protocol's octet, or has a reference
 // length or a type that is none of ours.
-#[derive(Drop)]
+#[derive(Clone, Copy)]
 pub enum Fault {
     Short,
     TooLong,
@@ -83,7 +85,7 @@ pub enum Fault {
     Kind,
 }
 
-#[derive(Drop)]
+#[derive(Clone, Copy)]
 pub enum Read {
     Taken(Reading),
     Refused(Fault),

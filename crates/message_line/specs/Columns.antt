@@ -30,9 +30,9 @@ cause_column (Cause.Value v) = decimal_of v
 -- single octet `A0`, `B0`, `BF` or `-`
 abbrev pub single_column : Single → List ℕ
 single_column Single.Absent = dash
-single_column Single.MoreData = hex_of 0x_a0
-single_column Single.Ready = hex_of 0x_b0
-single_column Single.NotReady = hex_of 0x_bf
+single_column Single.MoreData = hex_of 0xA0
+single_column Single.Ready = hex_of 0xB0
+single_column Single.NotReady = hex_of 0xBF
 
 -- the user-user element as `offset+length` within its message, or `-`
 abbrev pub element_column : Place → List ℕ

@@ -1,4 +1,6 @@
 // The line of one message: what is printed of it, column by column.
+#![tactic(auto)]
+
 ghost use Rattle.std.specs.Prelude.{◌≡◌, true, ◌∷◌, ◌++◌, ◌+◌, ◌≤◌, length};
 ghost use Rattle.memory.specs.Room.{Written};
 ghost use Rattle.message_fields.specs.Numbers.{fault_number};
@@ -46,6 +48,7 @@ fn flag_digit(flag: bool) -> u8
 }
 
 // The type, the flag and the reference.
+#[tactic(auto, unfolding(crate::specs::Columns::head_columns))]
 fn put_head(buf: &mut [u8], at: usize, h: Header) -> usize
     requires { at + 26 ≤ length buf.old }
     ensures { Piece 26 at (head_columns h) buf.old buf.new result }
@@ -81,9 +84,9 @@ fn put_single(buf: &mut [u8], at: usize, s: Single) -> usize
             buf[at + 1] = b'-';
             at + 2
         }
-        Single::MoreData => put_hex(buf, at, 0x_a0),
-        Single::Ready => put_hex(buf, at, 0x_b0),
-        Single::NotReady => put_hex(buf, at, 0x_bf),
+        Single::MoreData => put_hex(buf, at, 0xA0),
+        Single::Ready => put_hex(buf, at, 0xB0),
+        Single::NotReady => put_hex(buf, at, 0xBF),
     }
 }
 
@@ -119,6 +122,7 @@ fn put_message(buf: &mut [u8], at: usize, m: Message) -> usize
 }
 
 // The columns of a message that was taken.
+#[tactic(auto, unfolding(crate::specs::Columns::taken_columns))]
 fn put_taken(buf: &mut [u8], at: usize, r: Reading) -> usize
     requires { at + 181 ≤ length buf.old }
     ensures { Piece 181 at (taken_columns r) buf.old buf.new result }
@@ -143,6 +147,7 @@ fn fault_digit(f: Fault) -> u8
     }
 }
 
+#[tactic(auto, unfolding(crate::specs::Columns::columns_of))]
 fn put_refused(buf: &mut [u8], at: usize, f: Fault) -> usize
     requires { at + 16 ≤ length buf.old }
     ensures { Piece 16 at (columns_of (Read.Refused f)) buf.old buf.new result }
@@ -153,6 +158,7 @@ fn put_refused(buf: &mut [u8], at: usize, f: Fault) -> usize
 }
 
 // The columns after the first.
+#[tactic(auto, unfolding(crate::specs::Columns::columns_of))]
 fn put_columns(buf: &mut [u8], at: usize, r: Read) -> usize
     requires { at + 181 ≤ length buf.old }
     ensures { Piece 181 at (columns_of r) buf.old buf.new result }
@@ -165,6 +171,7 @@ fn put_columns(buf: &mut [u8], at: usize, r: Read) -> usize
 
 // Writes the line of a message that starts at an offset of its capture; where the line does not fit, nothing. It is
 // laid out apart first, since how long it is shows only when it is there.
+#[tactic(auto, unfolding(crate::specs::Line::line_of, crate::specs::Line::line_with))]
 pub fn write_line(buf: &mut [u8], at: usize, offset: u64, m: &[u8]) -> Wrote
     ensures { Written true at (line_of offset m.now) buf.old buf.new result }
 {

@@ -225,22 +225,22 @@ module _ (m n : List ℕ) (p : ℕ) (o : Ours m p) (same : take (p + 1) m ≡ ta
   over_lock l = over_from (λ r s. rw (locked m l s) (at_shift l.0))
 
   module _ (l : NonLocking (get_or m p 0)) (q : ℕ) (d : Ends m (p + 1) q) (d' : Ends n (p + 1) q) (rest : drop q m ≡ drop q n) where
-    after-shift : {r : ℕ} → Looks m (p + 1) true r → Looks n (p + 1) true r × Alike m n r
-    after-shift {r} (passed e s) =
+    after_shift : {r : ℕ} → Looks m (p + 1) true r → Looks n (p + 1) true r × Alike m n r
+    after_shift {r} (passed e s) =
         let t = rw (ends_one e d) at s in
         (passed d' (follow_back m n q rest (omega arith) t), alike_back m n q rest r (looks_in t).0)
 
     past_shift : (r : ℕ) → Looks m p false r → Looks n p false r × Alike m n r
     past_shift r (here h) = at_shift (omega arith)
     past_shift r (shifted x (alone h) s) =
-        let t = after-shift s in
+        let t = after_shift s in
         let e = octet_front m n (p + 1) same p (omega arith) in
         (shifted (rw e at x) (alone (rw e at h)) t.0, t.1)
     past_shift r (shifted x (lengthy h) s) = absurd (omega arith)
     past_shift r (onward x e s) = absurd (not_shifting x l)
 
-    over-shift : Over m n
-    over-shift = over_from past_shift
+    over_shift : Over m n
+    over_shift = over_from past_shift
 
 -- what is taken of two such messages is the same
 one_reading : (g : List ℕ → Read) → DemandsOfReading g → (m n : List ℕ) (r s : Reading) → ((i : ℕ) → i < start m → get_or m i 0 ≡ get_or n i 0) → Over m n → Over n m → g m ≡ Read.Taken r → g n ≡ Read.Taken s → r ≡ s
@@ -254,9 +254,9 @@ behind_lock g d m n p r s o l same e f =
 
 pub behind_shift : (g : List ℕ → Read) → DemandsOfReading g → BehindShift g
 behind_shift g d m n p q r s o l same x y rest e f =
-    let to = over-shift m n p o same l q x y rest in
+    let to = over_shift m n p o same l q x y rest in
     let t = to p o in
-    one_reading g d m n r s (header_front m n p o same) to (over-shift n m p t.0 (sym same) (rw t.1.octet at l) q y x (sym rest)) e f
+    one_reading g d m n r s (header_front m n p o same) to (over_shift n m p t.0 (sym same) (rw t.1.octet at l) q y x (sym rest)) e f
 
 -- the premises are met
 met : ReadingMet

@@ -31,7 +31,7 @@ use Rattle.octet_promises.specs.ReadingDemands as demand
 use Rattle.octet_promises.proofs.Nine.{kind_octet_lem}
 use Rattle.octet_promises.proofs.Ways.{read_by_lem}
 use Rattle.octet_promises.proofs.Walk.{ListsIn, lists_in}
-use Rattle.octet_promises.proofs.Given.{single_octet, gives-cause, gives-single, gives-place, gives-facilities}
+use Rattle.octet_promises.proofs.Given.{single_octet, gives_cause, gives_single, gives_place, gives_facilities}
 use Rattle.octet_promises.proofs.Promises.{reads}
 
 -- MEETS, from the elements back to the first octet
@@ -54,10 +54,10 @@ module _ (m : List ℕ) where
   given_split h (whole es) i l =
       record {
         header = i;
-        single = gives-single m (counted false es) l h.kind;
-        cause = gives-cause m (counted false es) l;
-        facility = gives-facilities m (counted false es) l;
-        user = gives-place m (counted false es) l;
+        single = gives_single m (counted false es) l h.kind;
+        cause = gives_cause m (counted false es) l;
+        facility = gives_facilities m (counted false es) l;
+        user = gives_place m (counted false es) l;
       }
 
   given : Given (read_of m)

@@ -39,7 +39,7 @@ module _ (k : Kind) (x : ℕ) where
   Found Single.Ready = IsSingle k x Single.Ready
   Found Single.NotReady = IsSingle k x Single.NotReady
 
-more_found : (k : Kind) → Found k 0x_a0 (more_in (class_of k))
+more_found : (k : Kind) → Found k 0xA0 (more_in (class_of k))
 more_found Kind.Alerting = tt
 more_found Kind.CallProceeding = tt
 more_found Kind.Setup = tt
@@ -64,11 +64,11 @@ level_found Kind.CongestionControl x s i = i
 single_found : (k : Kind) (x : ℕ) → Found k x (single_of k x)
 unfolding single_of
 single_found k x =
-    by_cond (Found k x) (eqb x 0x_a0) (λ e. rw (eqb-true x 0x_a0 e) (more_found k))
+    by_cond (Found k x) (eqb x 0xA0) (λ e. rw (eqb-true x 0xA0 e) (more_found k))
     (λ _.
-    by_cond (Found k x) (eqb x 0x_b0) (λ e. rw (eqb-true x 0x_b0 e) (level_found k 0x_b0 Single.Ready ready))
+    by_cond (Found k x) (eqb x 0xB0) (λ e. rw (eqb-true x 0xB0 e) (level_found k 0xB0 Single.Ready ready))
     (λ _.
-    by_cond (Found k x) (eqb x 0x_bf) (λ e. rw (eqb-true x 0x_bf e) (level_found k 0x_bf Single.NotReady not_ready)) (λ _. tt)))
+    by_cond (Found k x) (eqb x 0xBF) (λ e. rw (eqb-true x 0xBF e) (level_found k 0xBF Single.NotReady not_ready)) (λ _. tt)))
 
 single_shift : {k : Kind} {x : ℕ} {s : Single} → IsSingle k x s → NoShift x
 single_shift more = inr (omega arith)
@@ -101,12 +101,12 @@ module _ (m : List ℕ) where
             before = λ q c k u t. x.before q c (beyond q c _ _ refl refl k t) u t;
           }
 
-      still-silent : Silent says (suc n) → Silent says i
-      still-silent x = λ q c k t. x q c (beyond q c _ _ refl refl k t) t
+      still_silent : Silent says (suc n) → Silent says i
+      still_silent x = λ q c k t. x q c (beyond q c _ _ refl refl k t) t
 
       later_first : {absent a : A} → First says absent (suc n) a → First says absent i a
       later_first (first x) = first (later x)
-      later_first (none x) = none (still-silent x)
+      later_first (none x) = none (still_silent x)
 
     -- the element at n is the first that says anything
     at_once : {i n : ℕ} {a : A} → i ≤ n → ((r : ℕ) → i ≤ r → r < n → P r → ⊥) → says n a → Next says i n a
@@ -125,9 +125,9 @@ module _ (m : List ℕ) where
       end : {i : ℕ} → Silent says i → All i []
       then : {i p : ℕ} {a : A} {l : List A} → Next says i p a → All (suc p) l → All i (a ∷ l)
 
-    later-all : (i n : ℕ) → i ≤ n → ((r : ℕ) → i ≤ r → r < n → P r → ⊥) → ((a : A) → says n a → ⊥) → {l : List A} → All (suc n) l → All i l
-    later-all i n h b s (end x) = end (still-silent i n h b s x)
-    later-all i n h b s (then x r) = then (later i n h b s x) r
+    later_all : (i n : ℕ) → i ≤ n → ((r : ℕ) → i ≤ r → r < n → P r → ⊥) → ((a : A) → says n a → ⊥) → {l : List A} → All (suc n) l → All i l
+    later_all i n h b s (end x) = end (still_silent i n h b s x)
+    later_all i n h b s (then x r) = then (later i n h b s x) r
 
   -- the four
   abbrev Counts : ℕ → Type 0
@@ -160,11 +160,11 @@ module _ (m : List ℕ) where
   turn_place : (e : Element) (es : List Element) → Counts e.at → Stands m e → Turn (SaysPlace m) Counts own_place first_place e es
   unfolding first_place
   turn_place e es p s =
-      by_cond (λ (v : Place). SaysPlace m e.at v ⊎ (((c : Place) → SaysPlace m e.at c → ⊥) × (v ≡ first_place es))) (eqb e.id 0x7_e)
+      by_cond (λ (v : Place). SaysPlace m e.at v ⊎ (((c : Place) → SaysPlace m e.at c → ⊥) × (v ≡ first_place es))) (eqb e.id 0x7E)
       (λ t.
-      let x = eqb-true e.id 0x7_e t in
+      let x = eqb-true e.id 0x7E t in
       inl (record { ours = p.looks; octet = s.octet ∙ x; says = rw (s.size (omega arith)) refl }))
-      (λ t. inr ((λ c u. eqb-false e.id 0x7_e t (sym s.octet ∙ u.octet)), refl))
+      (λ t. inr ((λ c u. eqb-false e.id 0x7E t (sym s.octet ∙ u.octet)), refl))
 
   turn_found : (k : Kind) (e : Element) (rest v : Single) → Counts e.at → get_or m e.at 0 ≡ e.id → single_of k e.id ≡ v → Found k e.id v → SaysSingle m k e.at (or_single v rest) ⊎ (((s : Single) → SaysSingle m k e.at s → ⊥) × (or_single v rest ≡ rest))
   turn_found k e rest Single.Absent p o z i = inr ((λ s x. said (rw o at x.says) (sym (single_octet (rw o at x.says)) ∙ z)), refl)
@@ -179,9 +179,9 @@ module _ (m : List ℕ) where
   abbrev AllSay : ℕ → List Component → Type 0
   AllSay = All (SaysComponent m) Counts own_component
 
-  turn_component : {i : ℕ} (e : Element) (cs : List Component) (f : Facility) → i ≤ e.at → ((r : ℕ) → i ≤ r → r < e.at → Counts r → ⊥) → Counts e.at → get_or m e.at 0 ≡ 0x1_c → facility_of (body_at m e.at) ≡ f → AllSay (suc e.at) cs → AllSay i (and_says f cs)
+  turn_component : {i : ℕ} (e : Element) (cs : List Component) (f : Facility) → i ≤ e.at → ((r : ℕ) → i ≤ r → r < e.at → Counts r → ⊥) → Counts e.at → get_or m e.at 0 ≡ 0x1C → facility_of (body_at m e.at) ≡ f → AllSay (suc e.at) cs → AllSay i (and_says f cs)
   turn_component {i} e cs Facility.Absent h b p o z r =
-      later-all (SaysComponent m) Counts own_component i e.at h b (λ c u. let y : ◌≡◌ {A = ℕ} 0 1 = cc (z, u.says) in omega arith) r
+      later_all (SaysComponent m) Counts own_component i e.at h b (λ c u. let y : ◌≡◌ {A = ℕ} 0 1 = cc (z, u.says) in omega arith) r
   turn_component e cs (Facility.Says c) h b p o z r =
       then (at_once (SaysComponent m) Counts own_component h b (record { ours = p.looks; octet = o; says = z })) r
 
@@ -189,11 +189,11 @@ module _ (m : List ℕ) where
   unfolding components
   all_say (walk.none n) = end (λ q c h u. n q h (own_component q c u))
   all_say (walk.next {i} {es} e h p b s l) =
-      by_cond (AllSay i) (eqb e.id 0x1_c)
+      by_cond (AllSay i) (eqb e.id 0x1C)
       (λ t.
-      let x = eqb-true e.id 0x1_c t in
+      let x = eqb-true e.id 0x1C t in
       turn_component e _ _ h b p (s.octet ∙ x) (ap facility_of (sym (s.body (omega arith)))) (all_say l))
-      (λ t. later-all (SaysComponent m) Counts own_component i e.at h b (λ c u. eqb-false e.id 0x1_c t (sym s.octet ∙ u.octet)) (all_say l))
+      (λ t. later_all (SaysComponent m) Counts own_component i e.at h b (λ c u. eqb-false e.id 0x1C t (sym s.octet ∙ u.octet)) (all_say l))
 
   three_of_lem : {i : ℕ} {cs : List Component} → AllSay i cs → Three (SaysComponent m) i (first_three cs)
   three_of_lem (end x) = silent x
@@ -202,17 +202,17 @@ module _ (m : List ℕ) where
   three_of_lem (then x (then y (then z r))) = three x y z
 
   module _ (es : List Element) (l : Lists m Counts (start m) es) where
-    pub gives-cause : GivesCause m (first_cause es)
+    pub gives_cause : GivesCause m (first_cause es)
     unfolding first_cause
-    gives-cause = first_of (SaysCause m) Counts own_cause Cause.Absent first_cause refl turn_cause l
+    gives_cause = first_of (SaysCause m) Counts own_cause Cause.Absent first_cause refl turn_cause l
 
-    pub gives-single : (k : Kind) → GivesSingle m k (first_single k es)
+    pub gives_single : (k : Kind) → GivesSingle m k (first_single k es)
     unfolding first_single
-    gives-single k = first_of (SaysSingle m k) Counts (own_single k) Single.Absent (first_single k) refl (turn_single k) l
+    gives_single k = first_of (SaysSingle m k) Counts (own_single k) Single.Absent (first_single k) refl (turn_single k) l
 
-    pub gives-place : GivesPlace m (first_place es)
+    pub gives_place : GivesPlace m (first_place es)
     unfolding first_place
-    gives-place = first_of (SaysPlace m) Counts own_place Place.Absent first_place refl turn_place l
+    gives_place = first_of (SaysPlace m) Counts own_place Place.Absent first_place refl turn_place l
 
-    pub gives-facilities : GivesFacilities m (first_three (components es))
-    gives-facilities = three_of_lem (all_say l)
+    pub gives_facilities : GivesFacilities m (first_three (components es))
+    gives_facilities = three_of_lem (all_say l)

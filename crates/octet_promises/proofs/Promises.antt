@@ -15,10 +15,7 @@ use Rattle.memory.specs.declared.Wrote.{Wrote}
 use Rattle.memory.specs.Room.{placed, wrote_of, left_of}
 use Rattle.message_fields.specs.declared.Message.{Message}
 use Rattle.message_fields.specs.declared.Read.{Read}
-use Rattle.message_types.specs.Kind.{kind_of}
-use Rattle.elements.specs.Elements.{then, elements}
-use Rattle.elements.specs.Meaning.{taken_from}
-use Rattle.message.specs.Reading.{headed_of, read_of}
+use Rattle.message.specs.Reading.{read_of}
 use Rattle.message.specs.Parts.{user_user_of}
 use Rattle.writer.specs.Fitting.{message_fits}
 use Rattle.writer.specs.Writing.{message_octets}

@@ -127,9 +127,9 @@ module _ (h : Header) where
   single_read : (s : Single) (p q : ℕ) (rest : List ℕ) → p + length (single_octets s) ≡ q → single_fits h.kind s ≡ true → going_on h false nothing (elements p 0 (single_octets s ++ rest)) ≡ going_on h false (found s Seen.Unseen Facilities.Zero Place.Absent) (elements q 0 rest)
   unfolding single_of
   single_read Single.Absent p q rest e f = let s : p ≡ q = omega arith in rw s refl
-  single_read Single.MoreData p q rest e f = single_is p q 0x_a0 Single.MoreData rest (omega arith) (omega arith) (more_back (class_of h.kind) f)
-  single_read Single.Ready p q rest e f = single_is p q 0x_b0 Single.Ready rest (omega arith) (omega arith) (level_back Single.Ready refl refl (class_of h.kind) f)
-  single_read Single.NotReady p q rest e f = single_is p q 0x_bf Single.NotReady rest (omega arith) (omega arith) (level_back Single.NotReady refl refl (class_of h.kind) f)
+  single_read Single.MoreData p q rest e f = single_is p q 0xA0 Single.MoreData rest (omega arith) (omega arith) (more_back (class_of h.kind) f)
+  single_read Single.Ready p q rest e f = single_is p q 0xB0 Single.Ready rest (omega arith) (omega arith) (level_back Single.Ready refl refl (class_of h.kind) f)
+  single_read Single.NotReady p q rest e f = single_is p q 0xBF Single.NotReady rest (omega arith) (omega arith) (level_back Single.NotReady refl refl (class_of h.kind) f)
 
   cause_read : (c : Cause) (p q : ℕ) (s : Single) (rest : List ℕ) → p + length (causes_octets c) ≡ q → causes_fit c ≡ true → going_on h false (found s Seen.Unseen Facilities.Zero Place.Absent) (elements p 0 (causes_octets c ++ rest)) ≡ going_on h false (found s (seen_for c) Facilities.Zero Place.Absent) (elements q 0 rest)
   cause_read Cause.Absent p q s rest e f = let z : p ≡ q = omega arith in rw z refl
@@ -138,7 +138,7 @@ module _ (h : Header) where
 
   component_read : (c : Component) (p q : ℕ) (s : Single) (n : Seen) (f : Facilities) (rest : List ℕ) → p + length (facility_octets c) ≡ q → component_fits c ≡ true → going_on h false (found s n f Place.Absent) (elements p 0 (facility_octets c ++ rest)) ≡ going_on h false (found s n (one_more f c) Place.Absent) (elements q 0 rest)
   component_read c p q s n f rest e k =
-      noted p q 0x1_c (body_of c) rest _ _ (omega arith) (omega arith) (rw (facility_back c k) at (adds_facility h (found s n f Place.Absent) (element p 0x1_c (body_of c)) refl))
+      noted p q 0x1C (body_of c) rest _ _ (omega arith) (omega arith) (rw (facility_back c k) at (adds_facility h (found s n f Place.Absent) (element p 0x1C (body_of c)) refl))
 
   facility_read : (f : Facilities) (p q : ℕ) (s : Single) (n : Seen) (rest : List ℕ) → p + length (facilities_octets f) ≡ q → facilities_fit f ≡ true → going_on h false (found s n Facilities.Zero Place.Absent) (elements p 0 (facilities_octets f ++ rest)) ≡ going_on h false (found s n f Place.Absent) (elements q 0 rest)
   facility_read Facilities.Zero p q s n rest e k = let z : p ≡ q = omega arith in rw z refl
@@ -168,11 +168,11 @@ module _ (h : Header) where
   user_read (x ∷ []) p s n f (inr k) = let l = k.least in absurd (omega arith)
   user_read (x ∷ y ∷ b) p s n f (inl k) = absurd (omega arith)
   user_read (x ∷ y ∷ b) p s n f (inr k) =
-      let i : x ≡ 0x7_e = k.first in
+      let i : x ≡ 0x7E = k.first in
       let j : y ≡ length b = omega (arith, k.second) in
       rw (i, j)
-      (ap (λ (l : List ℕ). going_on h false (found s n f Place.Absent) (elements p 0 (0x7_e ∷ length b ∷ l))) (sym (append-nil b))
-      ∙ noted p (p + 2 + length b) 0x7_e b [] _ _ (omega arith) refl (adds_place h (found s n f Place.Absent) (element p 0x7_e b) refl)
+      (ap (λ (l : List ℕ). going_on h false (found s n f Place.Absent) (elements p 0 (0x7E ∷ length b ∷ l))) (sym (append-nil b))
+      ∙ noted p (p + 2 + length b) 0x7E b [] _ _ (omega arith) refl (adds_place h (found s n f Place.Absent) (element p 0x7E b) refl)
       ∙ ended (p + 2 + length b) _
       ∙ simp add-two)
 
@@ -192,14 +192,14 @@ module _ (w : Message) (u : List ℕ) (h : message_fits w u ≡ true) where
   abbrev head : ℕ
   head = header_size w.header.width
 
-  abbrev after-single : ℕ
-  after-single = head + length (single_octets w.single)
+  abbrev after_single : ℕ
+  after_single = head + length (single_octets w.single)
 
-  abbrev after-cause : ℕ
-  after-cause = after-single + length (causes_octets w.cause)
+  abbrev after_cause : ℕ
+  after_cause = after_single + length (causes_octets w.cause)
 
-  abbrev after-facility : ℕ
-  after-facility = after-cause + length (facilities_octets w.facility)
+  abbrev after_facility : ℕ
+  after_facility = after_cause + length (facilities_octets w.facility)
 
   regroup : (a b c d e : List ℕ) → (a ++ b ++ c ++ d) ++ e ≡ a ++ (b ++ (c ++ (d ++ e)))
   regroup a b c d e = simp append_assoc
@@ -212,7 +212,7 @@ module _ (w : Message) (u : List ℕ) (h : message_fits w u ≡ true) where
   cause_same Cause.Absent = refl
   cause_same (Cause.Value v) = refl
 
-  place_same : (l : List ℕ) → placed after-facility l ≡ place_for w l
+  place_same : (l : List ℕ) → placed after_facility l ≡ place_for w l
   place_same [] = refl
   place_same (x ∷ xs) = rw (front_is w) refl
 
@@ -223,10 +223,10 @@ module _ (w : Message) (u : List ℕ) (h : message_fits w u ≡ true) where
       rw apart
       (header_read d.width d.flag d.reference d.kind _ f.reference (rw apart at short)
       ∙ sym (at_first d _)
-      ∙ single_read d w.single head after-single _ refl f.single
-      ∙ cause_read d w.cause after-single after-cause w.single _ refl f.cause
-      ∙ facility_read d w.facility after-cause after-facility w.single (seen_for w.cause) u refl f.facility
-      ∙ user_read d u after-facility w.single (seen_for w.cause) w.facility (element_in_lem u f.user)
+      ∙ single_read d w.single head after_single _ refl f.single
+      ∙ cause_read d w.cause after_single after_cause w.single _ refl f.cause
+      ∙ facility_read d w.facility after_cause after_facility w.single (seen_for w.cause) u refl f.facility
+      ∙ user_read d u after_facility w.single (seen_for w.cause) w.facility (element_in_lem u f.user)
       ∙ simp (cause_same w.cause, place_same u))
 
   pub element_back : user_user_of (message_octets w u) ≡ u

@@ -45,10 +45,10 @@ not_shifting (inr a) l = omega arith
 lock : (x : ℕ) → leb 0x90 x && leb x 0x97 ≡ true → Locking x
 lock x h = let t = both _ _ h in (leb-true _ _ t.0, leb-true _ _ t.1)
 
-shift : (x : ℕ) → leb 0x98 x && leb x 0x9_f ≡ true → NonLocking x
+shift : (x : ℕ) → leb 0x98 x && leb x 0x9F ≡ true → NonLocking x
 shift x h = let t = both _ _ h in (leb-true _ _ t.0, leb-true _ _ t.1)
 
-no_shift : (x : ℕ) (a b c : Bool) → leb 0x90 x ≡ a → leb x 0x97 ≡ b → leb x 0x9_f ≡ c → leb 0x90 x && leb x 0x97 ≡ false → leb 0x98 x && leb x 0x9_f ≡ false → NoShift x
+no_shift : (x : ℕ) (a b c : Bool) → leb 0x90 x ≡ a → leb x 0x97 ≡ b → leb x 0x9F ≡ c → leb 0x90 x && leb x 0x97 ≡ false → leb 0x98 x && leb x 0x9F ≡ false → NoShift x
 no_shift x false b c e f g l s = inl (leb-false _ _ e)
 no_shift x true true c e f g l s = absurd (true≢false (simp (e, f) at l))
 no_shift x true false false e f g l s = inr (leb-false _ _ g)

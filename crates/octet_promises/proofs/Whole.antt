@@ -96,7 +96,7 @@ module _ (m : List ℕ) where
   -- a place that is a whole user-user element
   pub record Stands (p n : ℕ) : Type 0 where
     pub within : p + n ≤ length m
-    pub first : get_or m p 0 ≡ 0x7_e
+    pub first : get_or m p 0 ≡ 0x7E
     pub second : get_or m (p + 1) 0 + 2 ≡ n
 
   abbrev PlaceIn : Place → Type 0
@@ -107,9 +107,9 @@ module _ (m : List ℕ) where
   unfolding first_place
   place_in_lem [] h = tt
   place_in_lem (e ∷ es) h =
-      by_cond PlaceIn (eqb e.id 0x7_e)
+      by_cond PlaceIn (eqb e.id 0x7E)
       (λ t.
-      let i = eqb-true e.id 0x7_e t in
+      let i = eqb-true e.id 0x7E t in
       let l = h.0 (omega arith) in
       record { within = l.within; first = l.first ∙ i; second = rw l.second refl })
       (λ _. place_in_lem es h.1)

@@ -35,16 +35,16 @@ unfoldable pub read_by : Shifts → List ℕ → Read
 read_by t m = again t (read_of m) (elements (start m) 0 (drop (start m) m))
 
 abbrev pub our_shifts : Shifts
-our_shifts = record { locks = between 0x90 0x97; shifts = between 0x98 0x9_f }
+our_shifts = record { locks = between 0x90 0x97; shifts = between 0x98 0x9F }
 
 -- SHUT OUT. With the paper's octets it is our reader; with others it does not meet what is demanded.
 pub record ShiftsBind : Type 0 where
   pub ours : (m : List ℕ) → read_by our_shifts m ≡ read_of m
   -- 92 to 97 are locking shifts
-  pub fewer_lock : DemandsOfReading (read_by (record { locks = between 0x90 0x91; shifts = between 0x92 0x9_f })) → ⊥
+  pub fewer_lock : DemandsOfReading (read_by (record { locks = between 0x90 0x91; shifts = between 0x92 0x9F })) → ⊥
   -- "Reading 7E after a locking shift as ours"
-  pub none_locks : DemandsOfReading (read_by (record { locks = nowhere; shifts = between 0x98 0x9_f })) → ⊥
+  pub none_locks : DemandsOfReading (read_by (record { locks = nowhere; shifts = between 0x98 0x9F })) → ⊥
   -- 98 to 9F are non-locking shifts
-  pub more_lock : DemandsOfReading (read_by (record { locks = between 0x90 0x98; shifts = between 0x99 0x9_f })) → ⊥
+  pub more_lock : DemandsOfReading (read_by (record { locks = between 0x90 0x98; shifts = between 0x99 0x9F })) → ⊥
   -- the element after a non-locking shift is passed over
   pub none_shifts : DemandsOfReading (read_by (record { locks = between 0x90 0x97; shifts = nowhere })) → ⊥

@@ -22,10 +22,10 @@ abbrev pub Locking : ℕ → Type 0
 Locking x = (0x90 ≤ x) × (x ≤ 0x97)
 
 abbrev pub NonLocking : ℕ → Type 0
-NonLocking x = (0x98 ≤ x) × (x ≤ 0x9_f)
+NonLocking x = (0x98 ≤ x) × (x ≤ 0x9F)
 
 abbrev pub NoShift : ℕ → Type 0
-NoShift x = (x < 0x90) ⊎ (0x9_f < x)
+NoShift x = (x < 0x90) ⊎ (0x9F < x)
 
 -- The scan has come to the element at p, which is passed over or not; the element at r is one that it looks at.
 pub data Looks (m : List ℕ) : ℕ → Bool → ℕ → Type 0 where
@@ -60,21 +60,21 @@ pub record SaysCause (m : List ℕ) (p : ℕ) (c : Cause) : Type 0 where
 -- "An unreadable Facility element, one that is not exactly one component, or a reject component counts as absent."
 pub record SaysComponent (m : List ℕ) (p : ℕ) (c : Component) : Type 0 where
   pub ours : Ours m p
-  pub octet : get_or m p 0 ≡ 0x1_c
+  pub octet : get_or m p 0 ≡ 0x1C
   pub says : facility_of (body_at m p) ≡ Facility.Says c
 
 -- the whole element, with its first two octets
 pub record SaysPlace (m : List ℕ) (p : ℕ) (u : Place) : Type 0 where
   pub ours : Ours m p
-  pub octet : get_or m p 0 ≡ 0x7_e
+  pub octet : get_or m p 0 ≡ 0x7E
   pub says : Place.At p (get_or m (p + 1) 0 + 2) ≡ u
 
 -- "More data belongs to USER INFORMATION only, and a congestion level to CONGESTION CONTROL; elsewhere the reader
 -- passes them over."
 pub data IsSingle : Kind → ℕ → Single → Type 0 where
-  more : IsSingle Kind.UserInformation 0x_a0 Single.MoreData
-  ready : IsSingle Kind.CongestionControl 0x_b0 Single.Ready
-  not_ready : IsSingle Kind.CongestionControl 0x_bf Single.NotReady
+  more : IsSingle Kind.UserInformation 0xA0 Single.MoreData
+  ready : IsSingle Kind.CongestionControl 0xB0 Single.Ready
+  not_ready : IsSingle Kind.CongestionControl 0xBF Single.NotReady
 
 pub record SaysSingle (m : List ℕ) (k : Kind) (p : ℕ) (s : Single) : Type 0 where
   pub ours : Ours m p

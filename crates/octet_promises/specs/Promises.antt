@@ -36,7 +36,7 @@ pub data IsKind : ℕ → Kind → Type 0 where
   connect : IsKind 0x07 Kind.Connect
   information : IsKind 0x20 Kind.UserInformation
   disconnect : IsKind 0x45 Kind.Disconnect
-  complete : IsKind 0x5_a Kind.ReleaseComplete
+  complete : IsKind 0x5A Kind.ReleaseComplete
   facility : IsKind 0x62 Kind.Facility
   congestion : IsKind 0x79 Kind.CongestionControl
 
@@ -65,7 +65,7 @@ Reads = Numbers read_of
 -- the octets after the first two: it is whole, and no octet of it is lost.
 pub record Element (m : List ℕ) (p n : ℕ) : Type 0 where
   pub within : p + n ≤ length m
-  pub first : get_or m p 0 ≡ 0x7_e
+  pub first : get_or m p 0 ≡ 0x7E
   pub second : get_or m (p + 1) 0 + 2 ≡ n
   pub octets : user_user_of m ≡ take n (drop p m)
 

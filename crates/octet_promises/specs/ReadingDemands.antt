@@ -70,15 +70,15 @@ BehindShift g =
 
 -- MET. Messages that these two speak of: a DISCONNECT with a shift, then an element x, then a User-user element.
 abbrev pub behind_of : ℕ → ℕ → List ℕ
-behind_of shift x = 8 ∷ 1 ∷ 5 ∷ 0x45 ∷ shift ∷ x ∷ 1 ∷ 0x84 ∷ 0x7_e ∷ 1 ∷ 4 ∷ []
+behind_of shift x = 8 ∷ 1 ∷ 5 ∷ 0x45 ∷ shift ∷ x ∷ 1 ∷ 0x84 ∷ 0x7E ∷ 1 ∷ 4 ∷ []
 
 pub record ReadingMet : Type 0 where
   pub counts : (shift x : ℕ) → Ours (behind_of shift x) 4
   pub ends : (shift x : ℕ) → x < 0x80 → Ends (behind_of shift x) 5 8
   pub lock : (place_in (read_of (behind_of 0x90 0x08)) ≡ Place.Absent) × (read_number (read_of (behind_of 0x90 0x08)) ≡ 0)
-  pub other_lock : (place_in (read_of (behind_of 0x97 0x7_e)) ≡ Place.Absent) × (read_number (read_of (behind_of 0x97 0x7_e)) ≡ 0)
+  pub other_lock : (place_in (read_of (behind_of 0x97 0x7E)) ≡ Place.Absent) × (read_number (read_of (behind_of 0x97 0x7E)) ≡ 0)
   pub shift : place_in (read_of (behind_of 0x98 0x08)) ≡ Place.At 8 3
-  pub other_shift : place_in (read_of (behind_of 0x9_f 0x7_e)) ≡ Place.At 8 3
+  pub other_shift : place_in (read_of (behind_of 0x9F 0x7E)) ≡ Place.At 8 3
 
 -- OUR READER meets what is demanded of reading, and it is the only one.
 pub record OurReading : Type 0 where

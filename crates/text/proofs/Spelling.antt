@@ -1,7 +1,7 @@
 -- A text read octet by octet: what has been read, and what is still to be, make the whole.
 use Prim.Native.Nat.{ℕ, suc, ◌+◌, ◌-◌, ◌<◌, ◌≤◌}
 use mathlib.Core.List.{List, [], ◌∷◌, ◌++◌, append_assoc, append-nil}
-use mathlib.Core.Bool.{Bool, true, false, cond, ◌&&◌}
+use mathlib.Core.Bool.{Bool, true, false, ◌&&◌}
 use mathlib.Core.Path.{◌≡◌, refl, sym, ap, ◌∙◌}
 use native.Mathlib.Omega.{arith}
 use native.Mathlib.Nat.{zero-add, add_assoc}
@@ -11,13 +11,11 @@ use lib.Dec.{leb}
 use lib.ListN.{length, get_or, drop, set, length-append, drop_of_length-le}
 use lib.Seq.{drop-cons}
 use Rattle.logic.proofs.Tests.{both}
-use Rattle.memory.specs.Room.{placed}
 use Rattle.memory.specs.Putting.{Put}
 use Rattle.memory.proofs.Pieces.{no_put, puts, put_length}
 use Rattle.text.specs.declared.octets.Reading.{Reading}
 use Rattle.text.specs.declared.octets.Step.{Step}
-use Rattle.text.specs.declared.octets.Spelt.{Spelt}
-use Rattle.text.specs.Octets.{step_of, unread_of, Spelling, after, stopped, by_step, read_of, answer_of, Spells}
+use Rattle.text.specs.Octets.{step_of, unread_of, Spelling, after, stopped, read_of, Spells}
 use Rattle.text.proofs.Pieced.{octet}
 
 -- a number between two others is not below the first
@@ -112,15 +110,15 @@ module _ {text : List ℕ} {s : Reading} {l : List ℕ} where
       pub ends : Spells text s l buf (record { used = i; wrote = n; reading = at; fault = f })
       ends = record { answer = rw (all) (let q = g.put.end in ap (λ (m : ℕ). record { used = i; wrote = m; reading = at; fault = f }) (omega arith)); buffer = rw all g.put.octets }
 
-    pub ends-whole : length text ≤ i → Spells text s l buf (record { used = i; wrote = n; reading = at; fault = false })
+    pub ends_whole : length text ≤ i → Spells text s l buf (record { used = i; wrote = n; reading = at; fault = false })
     unfolding read_of
-    ends-whole h = ends (rw (drop_of_length-le text {i = i} h) refl)
+    ends_whole h = ends (rw (drop_of_length-le text {i = i} h) refl)
 
-    pub ends-full : {y : ℕ} → i < length text → length buf ≤ n → Step.Whole y ≡ step_of at (get_or text i 0) → Spells text s l buf (record { used = i; wrote = n; reading = at; fault = false })
-    ends-full h k e = ends (rw (next h) (has_no_room (get_or text i 0) (drop (suc i) text) (length l - n) at e (omega (arith, as_long))))
+    pub ends_full : {y : ℕ} → i < length text → length buf ≤ n → Step.Whole y ≡ step_of at (get_or text i 0) → Spells text s l buf (record { used = i; wrote = n; reading = at; fault = false })
+    ends_full h k e = ends (rw (next h) (has_no_room (get_or text i 0) (drop (suc i) text) (length l - n) at e (omega (arith, as_long))))
 
-    pub ends-wrong : i < length text → Step.Fault ≡ step_of at (get_or text i 0) → Spells text s l buf (record { used = i; wrote = n; reading = at; fault = true })
-    ends-wrong h e = ends (rw (next h) (breaks_off (get_or text i 0) (drop (suc i) text) (length l - n) at e))
+    pub ends_wrong : i < length text → Step.Fault ≡ step_of at (get_or text i 0) → Spells text s l buf (record { used = i; wrote = n; reading = at; fault = true })
+    ends_wrong h e = ends (rw (next h) (breaks_off (get_or text i 0) (drop (suc i) text) (length l - n) at e))
 
 -- a text of which all is used, and the next one, are read as both in one
 abbrev pub Together : List ℕ → List ℕ → ℕ → Reading → Type 0

@@ -5,6 +5,7 @@ ghost use Rattle.text.specs.Hex.{digit_of, hex_of};
 
 use memory::{Wrote, write_octets};
 
+#[tactic(auto, unfolding(crate::specs::Hex::digit_of))]
 fn digit(d: u8) -> u8
     requires { d < 16 }
     ensures { result ≡ digit_of d }

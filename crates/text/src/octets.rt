@@ -1,10 +1,10 @@
 // Hexadecimal digits read as octets, piece by piece, with white space and comments between them.
 ghost use Rattle.std.specs.Prelude.{◌≡◌, ◌&&◌, ◌||◌, leb, eqb};
 ghost use Rattle.text.specs.Octets.{joined, step_of, unread_of, alone_of, Spells};
-ghost use Rattle.text.specs.Octets.{sign_of as Octets·signOf};
+ghost use Rattle.text.specs.Octets.{sign_of as sign_meant};
 
 // What an octet of the text is.
-#[derive(Drop)]
+#[derive(Clone, Copy)]
 enum Sign {
     Digit(u8),
     Blank,
@@ -13,21 +13,21 @@ enum Sign {
 }
 
 // The first digit of an octet whose second is still to come.
-#[derive(Drop)]
+#[derive(Clone, Copy)]
 pub enum Pending {
     Nothing,
     High(u8),
 }
 
 // Where reading stands between two octets of the text: comment is from `#` to the end of its line.
-#[derive(Drop)]
+#[derive(Clone, Copy)]
 pub struct Reading {
     pub pending: Pending,
     pub comment: bool,
 }
 
 // What one octet of the text makes of that: nothing is whole yet, an octet is, or it has no place there.
-#[derive(Drop)]
+#[derive(Clone, Copy)]
 enum Step {
     On(Reading),
     Whole(u8),
@@ -36,7 +36,7 @@ enum Step {
 
 // used: how many octets of the text were read; wrote: how many octets they make; reading: where reading stands then;
 // fault: whether the next octet of the text has no place there.
-#[derive(Drop)]
+#[derive(Clone, Copy)]
 pub struct Spelt {
     pub used: usize,
     pub wrote: usize,
@@ -69,8 +69,9 @@ fn blank(x: u8) -> bool
     x == 10
 }
 
+#[tactic(auto, unfolding(crate::specs::Octets::sign_of))]
 fn sign_of(x: u8) -> Sign
-    ensures { result ≡ Octets·signOf x }
+    ensures { result ≡ sign_meant x }
 {
     if within(48, x, 57) {
         return Sign::Digit(x - 48);
@@ -103,6 +104,7 @@ fn with_digit(p: Pending, d: u8) -> Step
 }
 
 // A comment ends with its line.
+#[tactic(auto, unfolding(crate::specs::Octets::step_of))]
 fn stepped(s: Reading, x: u8) -> Step
     ensures { result ≡ step_of s x }
 {

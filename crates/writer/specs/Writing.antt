@@ -26,9 +26,9 @@ header_octets h = 8 ∷ (reference_octets h.width h.flag h.reference ++ (kind_oc
 
 abbrev pub single_octets : Single → List ℕ
 single_octets Single.Absent = []
-single_octets Single.MoreData = 0x_a0 ∷ []
-single_octets Single.Ready = 0x_b0 ∷ []
-single_octets Single.NotReady = 0x_bf ∷ []
+single_octets Single.MoreData = 0xA0 ∷ []
+single_octets Single.Ready = 0xB0 ∷ []
+single_octets Single.NotReady = 0xBF ∷ []
 
 abbrev pub causes_octets : Cause → List ℕ
 causes_octets Cause.Absent = []

@@ -83,6 +83,7 @@ fn facilities_fit(f: Facilities) -> bool
 }
 
 // Whether every field is in range.
+#[tactic(auto, unfolding(crate::specs::Fitting::message_fits))]
 pub(crate) fn message_fits(w: Message, user: &[u8]) -> bool
     ensures { result ≡ message_fits w user.now }
 {

@@ -1,4 +1,6 @@
 // A whole message written into a buffer that the caller lends, or why it is not; numbers 6 and 7.
+#![tactic(auto)]
+
 ghost use Rattle.std.specs.Prelude.{◌≡◌, true, ◌≤◌, ◌+◌, length, get_or};
 ghost use Rattle.memory.specs.Room.{Written};
 ghost use Rattle.memory.specs.Putting.{Put};
@@ -55,9 +57,9 @@ fn single_octet(s: Single) -> u8
 {
     match s {
         Single::Absent => 0,
-        Single::MoreData => 0x_a0,
-        Single::Ready => 0x_b0,
-        Single::NotReady => 0x_bf,
+        Single::MoreData => 0xA0,
+        Single::Ready => 0xB0,
+        Single::NotReady => 0xBF,
     }
 }
 
@@ -109,6 +111,7 @@ fn put_facilities(buf: &mut [u8], at: usize, f: Facilities) -> usize
 }
 
 // The single octet first, then Cause, Facility, User-user.
+#[tactic(auto, unfolding(crate::specs::Writing::front_octets, crate::specs::Writing::message_octets))]
 fn put_message(buf: &mut [u8], w: Message, user: &[u8]) -> usize
     requires { (message_fits w user.now ≡ true) × (length (message_octets w user.now) ≤ length buf.old) }
     ensures { Put 0 (message_octets w user.now) buf.old buf.new result }

@@ -34,6 +34,7 @@ fn cause_size(c: Cause) -> usize
     }
 }
 
+#[tactic(auto, unfolding(facility::specs::Filling::filled))]
 fn component_size(c: Component) -> usize
     ensures { (result ≡ length (facility_octets c)) × (result ≤ 19) }
 {

@@ -65,9 +65,9 @@ module _ (f : List Slot) (b : List ℕ) where
     unfolding read_as
     read h says = read_by_lem (spells f b) (ltb (get_or b 5 0) 128) says (sym e ∙ h)
 
-    pub not-read : t ≡ false → (says : Facility) → Facility.Absent ≡ read_as f b says
+    pub not_read : t ≡ false → (says : Facility) → Facility.Absent ≡ read_as f b says
     unfolding read_as
-    not-read h says = not_read_by (spells f b) (ltb (get_or b 5 0) 128) says (sym e ∙ h)
+    not_read h says = not_read_by (spells f b) (ltb (get_or b 5 0) 128) says (sym e ∙ h)
 
-    pub read-long : t ≡ true → length b ≡ size f
-    read-long h = spelt_long (first (spells f b) (ltb (get_or b 5 0) 128) (sym e ∙ h))
+    pub read_long : t ≡ true → length b ≡ size f
+    read_long h = spelt_long (first (spells f b) (ltb (get_or b 5 0) 128) (sym e ∙ h))
