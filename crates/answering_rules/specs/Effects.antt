@@ -17,14 +17,14 @@ settled_of s Fate.Accepted = Standing.InForce
 settled_of s Fate.Closed = Standing.Closed
 settled_of s Fate.Failed = Standing.Closed
 
--- "the message goes on with these answers": accepted, or "closed, rejected_by_user to the caller"
+-- "the message goes on with these answers": accepted, or "closed, rejectedByUser to the caller"
 abbrev pub told_of : Fate → Said
 told_of Fate.Kept = Said.Nothing
 told_of Fate.Accepted = Said.Accepted
 told_of Fate.Closed = Said.ByUser
 told_of Fate.Failed = Said.ByUser
 
--- "DISCONNECT to the caller with rejected_by_user for each due service not accepted"
+-- "DISCONNECT to the caller with rejectedByUser for each due service not accepted"
 abbrev pub declined_of : Fate → Said
 declined_of Fate.Kept = Said.Nothing
 declined_of Fate.Accepted = Said.Nothing

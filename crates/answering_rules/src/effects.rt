@@ -48,6 +48,7 @@ fn failure(f: Fate) -> bool
 }
 
 // Whether a required service failed, which clears the call.
+#[tactic(auto, unfolding(crate::specs::Effects::failed_of))]
 pub fn failed(f: Fates) -> bool
     ensures { result ≡ failed_of f }
 {
@@ -57,6 +58,7 @@ pub fn failed(f: Fates) -> bool
     failure(one) | failure(two) | failure(three)
 }
 
+#[tactic(auto, unfolding(crate::specs::Effects::settles_of))]
 pub fn settles(s: Standings, f: Fates) -> Standings
     ensures { result ≡ settles_of s f }
 {
@@ -73,6 +75,7 @@ pub fn settles(s: Standings, f: Fates) -> Standings
     }
 }
 
+#[tactic(auto, unfolding(crate::specs::Effects::tells_of))]
 pub fn tells(f: Fates) -> Facilities
     ensures { result ≡ tells_of f }
 {
@@ -86,6 +89,7 @@ pub fn tells(f: Fates) -> Facilities
     }
 }
 
+#[tactic(auto, unfolding(crate::specs::Effects::declines_of))]
 pub fn declines(f: Fates) -> Facilities
     ensures { result ≡ declines_of f }
 {

@@ -1,4 +1,6 @@
 // ALERTING and CONNECT: what the answers that are due make of each service. `effects` has what that makes of the call.
+#![tactic(auto)]
+
 ghost use Rattle.std.specs.Prelude.{◌≡◌};
 ghost use Rattle.answering_rules.specs.Fates.{decided_of, alerting_fates_of, connect_fates_of};
 
@@ -7,7 +9,7 @@ use services::{Answers, Given, Standing, Standings};
 pub mod effects;
 
 // What an answer that is due makes of a service. Failed: it was required and is not accepted.
-#[derive(Drop)]
+#[derive(Clone, Copy)]
 pub enum Fate {
     Kept,
     Accepted,
@@ -15,7 +17,7 @@ pub enum Fate {
     Failed,
 }
 
-#[derive(Drop)]
+#[derive(Clone, Copy)]
 pub struct Fates {
     pub one: Fate,
     pub two: Fate,
@@ -44,6 +46,7 @@ fn decided(s: Standing, g: Given) -> Fate
 }
 
 // Answers to services 1 and 2 are due at ALERTING.
+#[tactic(auto, unfolding(crate::specs::Fates::alerting_fates_of))]
 pub fn alerting_fates(s: Standings, a: Answers) -> Fates
     ensures { result ≡ alerting_fates_of s a }
 {
@@ -60,6 +63,7 @@ pub fn alerting_fates(s: Standings, a: Answers) -> Fates
 
 // The answer to service 3 is due at CONNECT; without ALERTING the one to service 1 too, and service 2 counts as
 // unanswered.
+#[tactic(auto, unfolding(crate::specs::Fates::connect_fates_of))]
 pub fn connect_fates(alerted: bool, s: Standings, a: Answers) -> Fates
     ensures { result ≡ connect_fates_of alerted s a }
 {

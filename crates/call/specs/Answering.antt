@@ -40,7 +40,7 @@ goes_on_of c kind next f seen =
           (by_one_of (goes_out_of seen (in_force_of (answered_call_of c next f).standings.one)));
     }
 
--- "Required and not accepted: DISCONNECT to the caller with rejected_by_user for each due service not accepted, and to
+-- "Required and not accepted: DISCONNECT to the caller with rejectedByUser for each due service not accepted, and to
 -- the called user with cause 31; Clearing." The caller hears 69, as EN 300 286-1 has it of each service, of a rejection
 -- and of no answer (9.1.1.2.2, 9.2.1.2, 9.3.1.1.2). The message is not carried on, and so its element is not.
 unfoldable pub clears_of : Call → Fates → Seen → Reply

@@ -18,6 +18,7 @@ use services::{Answers, in_force};
 use user_element::{Seen, goes_out, look, noted};
 
 // The message goes on to the caller with the answers, and the call enters its next phase.
+#[tactic(auto, unfolding(crate::specs::Answering::answered_call_of, crate::specs::Answering::goes_on_of))]
 fn goes_on(c: Call, kind: Kind, next: Phase, fates: Fates, seen: Seen) -> Reply
     ensures { result ≡ goes_on_of c kind next fates seen }
 {
@@ -49,6 +50,7 @@ fn goes_on(c: Call, kind: Kind, next: Phase, fates: Fates, seen: Seen) -> Reply
 }
 
 // A required service was not accepted: both users are cleared, and the element goes nowhere.
+#[tactic(auto, unfolding(crate::specs::Answering::clears_of))]
 fn clears(c: Call, fates: Fates, seen: Seen) -> Reply
     ensures { result ≡ clears_of c fates seen }
 {
@@ -70,6 +72,7 @@ fn clears(c: Call, fates: Fates, seen: Seen) -> Reply
 }
 
 // One message with answers: it goes on, unless a required service failed.
+#[tactic(auto, unfolding(crate::specs::Answering::answered_of))]
 fn answered(c: Call, kind: Kind, next: Phase, fates: Fates, element: &[u8]) -> Reply
     ensures { result ≡ answered_of c kind next fates element.now }
 {
@@ -83,6 +86,7 @@ fn answered(c: Call, kind: Kind, next: Phase, fates: Fates, element: &[u8]) -> R
 }
 
 impl Call {
+    #[tactic(auto, unfolding(crate::specs::Answering::alerting_of))]
     pub fn alerting(self, answers: Answers, element: &[u8]) -> Reply
         ensures { result ≡ alerting_of self answers element.now }
     {
@@ -93,6 +97,7 @@ impl Call {
         heard(self, is_requested(phase), true, reply)
     }
 
+    #[tactic(auto, unfolding(crate::specs::Answering::connect_of))]
     pub fn connect(self, answers: Answers, element: &[u8]) -> Reply
         ensures { result ≡ connect_of self answers element.now }
     {

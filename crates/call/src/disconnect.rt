@@ -18,6 +18,7 @@ use services::{Answers, Standings, in_force};
 use user_element::{Note, Seen, goes_out, look, noted};
 
 // `answers` are those that count. The record keeps what it had, but for service 1 accepted at the last moment.
+#[tactic(auto, unfolding(crate::specs::Disconnect::closed_call_of, crate::specs::Disconnect::passed_on_of))]
 fn passed_on(c: Call, side: Side, cause: u8, answers: Answers, seen: Seen) -> Reply
     ensures { result ≡ passed_on_of c side cause answers seen }
 {
@@ -51,6 +52,7 @@ fn passed_on(c: Call, side: Side, cause: u8, answers: Answers, seen: Seen) -> Re
 }
 
 impl Call {
+    #[tactic(auto, unfolding(crate::specs::Disconnect::disconnect_of))]
     pub fn disconnect(self, side: Side, cause: u8, answers: Answers, element: &[u8]) -> Reply
         ensures { result ≡ disconnect_of self side cause answers element.now }
     {
@@ -62,6 +64,7 @@ impl Call {
         heard(self, is_up(phase), cause <= GREATEST_CAUSE, reply)
     }
 
+    #[tactic(auto, unfolding(crate::specs::Disconnect::ends_of, crate::specs::Disconnect::release_complete_of))]
     pub fn release_complete(self, side: Side) -> Reply
         ensures { result ≡ release_complete_of self side }
     {

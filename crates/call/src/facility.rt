@@ -16,6 +16,7 @@ use services::{Standings, in_force};
 use user_element::Note;
 
 // A refusal leaves the record as it was.
+#[tactic(auto, unfolding(crate::specs::Facility::facility_call_of))]
 fn facility_call(c: Call, side: Side, what: What, answer: Answer) -> Call
     ensures { result ≡ cond (taken_of answer) (facility_call_of c side what) c }
 {
@@ -44,6 +45,7 @@ fn facility_call(c: Call, side: Side, what: What, answer: Answer) -> Call
     )
 }
 
+#[tactic(auto, unfolding(crate::specs::Facility::facility_verdict_of, crate::specs::Facility::passes_facility_of))]
 fn passes_facility(c: Call, side: Side, what: What) -> Reply
     ensures { result ≡ passes_facility_of c side what (facility_verdict_of c side what) }
 {
@@ -64,6 +66,7 @@ fn passes_facility(c: Call, side: Side, what: What) -> Reply
 }
 
 impl Call {
+    #[tactic(auto, unfolding(crate::specs::Facility::facility_of))]
     pub fn facility(self, side: Side, what: What) -> Reply
         ensures { result ≡ facility_of self side what }
     {

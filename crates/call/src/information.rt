@@ -13,6 +13,7 @@ use sent::side::Side;
 use services::in_force;
 use user_element::{Note, Seen, look, noted, whole};
 
+#[tactic(auto, unfolding(crate::specs::Information::meters_of))]
 pub(crate) fn with_meters(mut c: Call, m: Meters) -> Call
     ensures { result ≡ meters_of c m }
 {
@@ -21,6 +22,7 @@ pub(crate) fn with_meters(mut c: Call, m: Meters) -> Call
 }
 
 // What a side's message meets in its meter, what that makes of the call, and the messages.
+#[tactic(auto, unfolding(crate::specs::Information::carried_of, crate::specs::Information::information_passage_of))]
 fn carried(c: Call, side: Side, more: bool) -> Reply
     ensures { result ≡ carried_of c side more (information_passage_of c side) }
 {
@@ -51,6 +53,7 @@ fn carried(c: Call, side: Side, more: bool) -> Reply
 }
 
 // 17: the one refusal that has the element's note.
+#[tactic(auto, unfolding(crate::specs::Information::with_element_of))]
 fn with_element(c: Call, seen: Seen, r: Reply) -> Reply
     ensures { result ≡ with_element_of c seen r }
 {
@@ -62,6 +65,7 @@ fn with_element(c: Call, seen: Seen, r: Reply) -> Reply
 }
 
 impl Call {
+    #[tactic(auto, unfolding(crate::specs::Information::information_of))]
     pub fn information(self, side: Side, more: bool, element: &[u8]) -> Reply
         ensures { result ≡ information_of self side more element.now }
     {

@@ -1,4 +1,6 @@
 // One call: its record, a method for each event, the step over any event, and the replies; numbers 11 to 18, 24, 25.
+#![tactic(auto)]
+
 use facility_rules::Asking;
 use flow_meter::call_meters::Meters;
 use phases::Phase;
@@ -16,7 +18,7 @@ pub mod sound;
 pub mod step;
 pub mod tick;
 
-#[derive(Drop)]
+#[derive(Clone, Copy)]
 pub struct Call {
     pub reference: u16,
     pub rights: Rights,

@@ -9,7 +9,7 @@ use sent::dispatch::{Carrier, Dispatch, nothing_sent, to_users};
 use sent::side::Side;
 use user_element::Note;
 
-#[derive(Drop)]
+#[derive(Clone, Copy)]
 pub struct Reply {
     pub call: Call,
     pub answer: Answer,
@@ -18,6 +18,7 @@ pub struct Reply {
 }
 
 // A refusal leaves the record as it was and sends nothing.
+#[tactic(auto, unfolding(crate::specs::Reply::refused_of))]
 pub(crate) fn refused(c: Call, a: Answer, note: Note) -> Reply
     ensures { result ≡ refused_of c a note }
 {
@@ -30,6 +31,7 @@ pub(crate) fn refused(c: Call, a: Answer, note: Note) -> Reply
 }
 
 // The reply, unless 25, 11 or 24 bars the event from being heard.
+#[tactic(auto, unfolding(crate::specs::Reply::bar_of, crate::specs::Reply::heard_of))]
 pub(crate) fn heard(c: Call, allowed: bool, ranged: bool, r: Reply) -> Reply
     ensures { result ≡ heard_of c (bar_of c allowed ranged) r }
 {
@@ -51,6 +53,7 @@ fn pick(side: Side, calling: Sent, called: Sent) -> Sent
 }
 
 // A reply to one side's event: `back` goes to that side, `on` to the other.
+#[tactic(auto, unfolding(crate::specs::Reply::reply_of))]
 pub(crate) fn reply_to(
     side: Side,
     c: Call,

@@ -12,6 +12,7 @@ use services::Requests;
 use setup_rules::opens;
 use user_element::{Seen, look};
 
+#[tactic(auto, unfolding(crate::specs::Setup::proceeds_of))]
 fn proceeds(reference: u16, rights: Rights, requests: Requests, seen: Seen) -> Reply
     ensures { result ≡ proceeds_of reference rights requests seen }
 {
@@ -29,6 +30,7 @@ fn proceeds(reference: u16, rights: Rights, requests: Requests, seen: Seen) -> R
 }
 
 impl Call {
+    #[tactic(auto, unfolding(crate::specs::Setup::setup_of))]
     pub fn setup(self, reference: u16, rights: Rights, requests: Requests, element: &[u8]) -> Reply
         ensures { result ≡ setup_of self reference rights requests element.now }
     {

@@ -12,6 +12,7 @@ use rights::{Rights, no_rights, reference_fits, rights_fit};
 use services::no_services;
 
 // The record keeps what it had: only its phase changes.
+#[tactic(auto, unfolding(crate::specs::Sound::in_phase_of))]
 pub(crate) fn in_phase(c: Call, p: Phase) -> Call
     ensures { result ≡ in_phase_of c p }
 {
@@ -32,6 +33,7 @@ fn ranges_fit(reference: u16, rights: Rights, m: Meters) -> bool
 }
 
 impl Call {
+    #[tactic(auto, unfolding(crate::specs::Sound::fresh_call))]
     pub fn fresh() -> Call
         ensures { result ≡ fresh_call }
     {
@@ -45,6 +47,7 @@ impl Call {
         is_live(phase)
     }
 
+    #[tactic(auto, unfolding(crate::specs::Sound::fields_fit_of, crate::specs::Sound::sound_of))]
     pub fn sound(self) -> bool
         ensures { result ≡ sound_of self }
     {

@@ -10,6 +10,7 @@ use user_element::Note;
 
 impl Call {
     // CALL PROCEEDING is the box's own message and no event.
+    #[tactic(auto, unfolding(crate::specs::Step::not_an_event_of))]
     pub fn call_proceeding(self) -> Reply
         ensures { result ≡ not_an_event_of self }
     {

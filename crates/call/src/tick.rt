@@ -13,6 +13,7 @@ use sent::dispatch::{Carrier, to_users};
 use services::in_force;
 use user_element::Note;
 
+#[tactic(auto, unfolding(crate::specs::Tick::passes_tick_of, crate::specs::Tick::runs_of))]
 fn passes_tick(c: Call) -> Reply
     ensures { result ≡ passes_tick_of c }
 {
@@ -33,6 +34,7 @@ fn passes_tick(c: Call) -> Reply
 }
 
 impl Call {
+    #[tactic(auto, unfolding(crate::specs::Tick::tick_of))]
     pub fn tick(self) -> Reply
         ensures { result ≡ tick_of self }
     {

@@ -1,4 +1,6 @@
 // DISCONNECT: what the answers in the called side's message still make of the services, and what is said of each.
+#![tactic(auto)]
+
 ghost use Rattle.std.specs.Prelude.{◌≡◌};
 ghost use Rattle.clearing_rules.specs.Closing.{rejection_of, closing_said_of, closing_standing_of, heard_answers_of, closing_facilities_of};
 
@@ -48,6 +50,7 @@ pub fn closing_standing(s: Standing, g: Given) -> Standing
 }
 
 // Only the called side has anything to answer.
+#[tactic(auto, unfolding(crate::specs::Closing::silent_answers))]
 pub fn heard_answers(side: Side, a: Answers) -> Answers
     ensures { result ≡ heard_answers_of side a }
 {
@@ -58,6 +61,7 @@ pub fn heard_answers(side: Side, a: Answers) -> Answers
 }
 
 // `asks` says whether the caller's own FACILITY request is open.
+#[tactic(auto, unfolding(crate::specs::Closing::closing_facilities_of))]
 pub fn closing_facilities(s: Standings, asks: bool, a: Answers) -> Facilities
     ensures { result ≡ closing_facilities_of s asks a }
 {

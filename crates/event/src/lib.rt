@@ -1,11 +1,13 @@
 // The events of a call, each without its element.
+#![tactic(auto)]
+
 use facility_rules::What;
 use rights::Rights;
 use sent::side::Side;
 use services::{Answers, Requests};
 
 // An event without its element.
-#[derive(Drop)]
+#[derive(Clone, Copy)]
 pub enum Event {
     Setup {
         reference: u16,

@@ -34,7 +34,7 @@ not_granted_of Answer.Unsound = false
 unfoldable pub about_three_of : Said → Sent
 about_three_of s = saying_of Kind.Facility Cause.Absent (record { one = Said.Nothing; two = Said.Nothing; three = s }) false
 
--- "16 sends the asker FACILITY with rejected_by_network"
+-- "16 sends the asker FACILITY with rejectedByNetwork"
 abbrev pub to_asker_of : Answer → Sent
 to_asker_of verdict = only_if_of (not_granted_of verdict) (about_three_of Said.ByNetwork)
 

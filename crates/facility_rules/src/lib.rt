@@ -1,5 +1,7 @@
 // FACILITY: service 3 asked for, accepted or rejected while connected, and what it is answered. `messages` has what the
 // two users are told.
+#![tactic(auto)]
+
 ghost use Rattle.std.specs.Prelude.{◌≡◌};
 ghost use Rattle.facility_rules.specs.Asking.{nobody_asks, asks_of, with_ask_of, may_ask_of, to_answer_of, verdict_of, facility_asking_of, facility_three_of, facility_meters_of};
 
@@ -12,14 +14,14 @@ use services::Standing;
 pub mod messages;
 
 // Who has a FACILITY request for service 3 open.
-#[derive(Drop)]
+#[derive(Clone, Copy)]
 pub struct Asking {
     pub calling: bool,
     pub called: bool,
 }
 
 // What a FACILITY message says of service 3.
-#[derive(Drop)]
+#[derive(Clone, Copy)]
 pub enum What {
     Preferred,
     Accept,
@@ -27,6 +29,7 @@ pub enum What {
     Required,
 }
 
+#[tactic(auto, unfolding(crate::specs::Asking::nobody_asks))]
 pub fn nobody_asks() -> Asking
     ensures { result ≡ nobody_asks }
 {
@@ -70,6 +73,7 @@ fn may_ask(r: Rights, side: Side) -> bool
     }
 }
 
+#[tactic(auto, unfolding(crate::specs::Asking::to_answer_of))]
 fn to_answer(shut: bool) -> Answer
     ensures { result ≡ to_answer_of shut }
 {
@@ -77,6 +81,7 @@ fn to_answer(shut: bool) -> Answer
 }
 
 // `force` says whether service 3 is in force. A request is answered 16, then 15.
+#[tactic(auto, unfolding(crate::specs::Asking::to_answer_of, crate::specs::Asking::to_request_of))]
 pub fn verdict(r: Rights, a: Asking, force: bool, side: Side, what: What) -> Answer
     ensures { result ≡ verdict_of r a force side what }
 {

@@ -21,6 +21,7 @@ fn facility_said(what: What) -> Said
 }
 
 // FACILITY about service 3.
+#[tactic(auto, unfolding(crate::specs::Messages::about_three_of))]
 fn about_three(s: Said) -> Sent
     ensures { result ≡ about_three_of s }
 {
@@ -37,6 +38,7 @@ fn about_three(s: Said) -> Sent
 }
 
 // The asker is told of 16.
+#[tactic(auto, unfolding(sent::specs::Message::only_if_of))]
 pub fn to_asker(verdict: Answer) -> Sent
     ensures { result ≡ to_asker_of verdict }
 {
@@ -47,6 +49,7 @@ pub fn to_asker(verdict: Answer) -> Sent
 }
 
 // What is taken goes on to the other user.
+#[tactic(auto, unfolding(sent::specs::Message::only_if_of))]
 pub fn to_other(verdict: Answer, what: What) -> Sent
     ensures { result ≡ to_other_of verdict what }
 {

@@ -9,12 +9,13 @@ use sent::side::Side;
 use sent::{Level, Sent, congestion, only_if};
 
 // The meter of what each side sends.
-#[derive(Drop)]
+#[derive(Clone, Copy)]
 pub struct Meters {
     pub calling: Meter,
     pub called: Meter,
 }
 
+#[tactic(auto, unfolding(crate::specs::CallMeters::empty_meters))]
 pub fn empty_meters() -> Meters
     ensures { result ≡ empty_meters }
 {
@@ -51,6 +52,7 @@ pub fn spent(mut m: Meters, side: Side, p: Passage) -> Meters
 }
 
 // Service 3 comes into force: each direction has the whole burst.
+#[tactic(auto, unfolding(crate::specs::CallMeters::grants_of))]
 pub fn grants(mut m: Meters, burst: u16) -> Meters
     ensures { result ≡ grants_of m burst }
 {
@@ -60,6 +62,7 @@ pub fn grants(mut m: Meters, burst: u16) -> Meters
 }
 
 // `runs` says whether service 3 is in force in Active: otherwise a tick does nothing.
+#[tactic(auto, unfolding(crate::specs::CallMeters::refills_of, crate::specs::CallMeters::ticked_meters_of))]
 pub fn refills(mut m: Meters, r: Rights, runs: bool) -> Meters
     ensures { result ≡ refills_of m r runs }
 {
@@ -73,6 +76,7 @@ pub fn refills(mut m: Meters, r: Rights, runs: bool) -> Meters
 }
 
 // The sender of a direction whose mark is set is told that it is ready.
+#[tactic(auto, unfolding(crate::specs::CallMeters::ready_of))]
 pub fn ready(m: Meter, runs: bool) -> Sent
     ensures { result ≡ ready_of m runs }
 {

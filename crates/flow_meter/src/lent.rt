@@ -6,13 +6,13 @@ use crate::passage::{Passage, after, passage_of};
 use crate::{Meter, meter_fits, ticked};
 use rights::{GREATEST_BURST, GREATEST_REFILL};
 
-#[derive(Drop)]
+#[derive(Clone, Copy)]
 pub struct Spending {
     pub next: Meter,
     pub spent: Spent,
 }
 
-#[derive(Drop)]
+#[derive(Clone, Copy)]
 pub struct Ticking {
     pub next: Meter,
     pub ticked: Ticked,
@@ -31,12 +31,14 @@ fn spent_by(p: Passage) -> Spent
 }
 
 // The burst that the meter is held to is held to its own range first.
+#[tactic(auto, unfolding(crate::specs::Lent::lent_fits_of))]
 fn lent_fits(m: Meter, burst: u16) -> bool
     ensures { result ≡ lent_fits_of m burst }
 {
     (1 <= burst) & (burst <= GREATEST_BURST) & meter_fits(m, burst)
 }
 
+#[tactic(auto, unfolding(crate::specs::Lent::spends_of))]
 fn spends(m: Meter, burst: u16, two: bool, three: bool) -> Spending
     ensures { result ≡ spends_of m burst two three }
 {
@@ -54,6 +56,7 @@ fn spends(m: Meter, burst: u16, two: bool, three: bool) -> Spending
     }
 }
 
+#[tactic(auto, unfolding(crate::specs::Lent::refill_fits_of, crate::specs::Lent::ticks_of))]
 fn ticks(m: Meter, burst: u16, refill: u16) -> Ticking
     ensures { result ≡ ticks_of m burst refill }
 {
@@ -103,7 +106,7 @@ pub fn tick(m: &mut Meter, burst: u16, refill: u16) -> Ticked
 
 // What became of a message: it passed under service 2 or under service 3, it was dropped and set the mark, it was
 // dropped, or no service serves it. Unsound: the meter was not looked at further.
-#[derive(Drop)]
+#[derive(Clone, Copy)]
 pub enum Spent {
     Two,
     Three,
@@ -114,7 +117,7 @@ pub enum Spent {
 }
 
 // Whether a tick cleared the mark, so that ready is to be sent.
-#[derive(Drop)]
+#[derive(Clone, Copy)]
 pub enum Ticked {
     Ready,
     Quiet,

@@ -1,4 +1,6 @@
 // The flow meter of one direction: credit, mark and service 2 count, as service 3 comes into force and at a tick.
+#![tactic(auto)]
+
 ghost use Rattle.std.specs.Prelude.{◌≡◌};
 ghost use Rattle.flow_meter.specs.Meter.{empty_of, meter_fits_of, granted_of, refilled_of, ticked_of};
 
@@ -9,13 +11,14 @@ pub mod passage;
 // Messages that service 2 lets through in one direction.
 pub(crate) const GREATEST_COUNT: u8 = 2;
 
-#[derive(Drop)]
+#[derive(Clone, Copy)]
 pub struct Meter {
     pub credit: u16,
     pub mark: bool,
     pub count: u8,
 }
 
+#[tactic(auto, unfolding(crate::specs::Meter::empty_of))]
 pub(crate) fn empty() -> Meter
     ensures { result ≡ empty_of }
 {
@@ -26,6 +29,7 @@ pub(crate) fn empty() -> Meter
     }
 }
 
+#[tactic(auto, unfolding(crate::specs::Meter::meter_fits_of))]
 pub fn meter_fits(m: Meter, burst: u16) -> bool
     ensures { result ≡ meter_fits_of m burst }
 {
@@ -33,6 +37,7 @@ pub fn meter_fits(m: Meter, burst: u16) -> bool
 }
 
 // The meter as service 3 comes into force.
+#[tactic(auto, unfolding(crate::specs::Meter::granted_of))]
 pub(crate) fn granted(m: Meter, burst: u16) -> Meter
     ensures { result ≡ granted_of m burst }
 {
@@ -44,6 +49,7 @@ pub(crate) fn granted(m: Meter, burst: u16) -> Meter
 }
 
 // The sum is tested before it is made, since it may not fit.
+#[tactic(auto, unfolding(crate::specs::Meter::refilled_of))]
 fn refilled(credit: u16, burst: u16, refill: u16) -> u16
     ensures { result ≡ refilled_of credit burst refill }
 {
@@ -58,6 +64,7 @@ fn refilled(credit: u16, burst: u16, refill: u16) -> u16
     }
 }
 
+#[tactic(auto, unfolding(crate::specs::Meter::ticked_of))]
 pub(crate) fn ticked(m: Meter, burst: u16, refill: u16) -> Meter
     ensures { result ≡ ticked_of m burst refill }
 {

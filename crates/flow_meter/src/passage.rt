@@ -6,7 +6,7 @@ use crate::{GREATEST_COUNT, Meter};
 
 // What becomes of a USER INFORMATION message: it passes under service 2 or under service 3, it is dropped and sets the
 // mark, it is dropped, or no service serves it. Each of the first three holds the meter as it is to be afterwards.
-#[derive(Drop)]
+#[derive(Clone, Copy)]
 pub enum Passage {
     Two(Meter),
     Three(Meter),
@@ -16,6 +16,7 @@ pub enum Passage {
 }
 
 // A message that service 3 pays for, or that is dropped for credit.
+#[tactic(auto, unfolding(crate::specs::Passage::marked_of, crate::specs::Passage::paid_of, crate::specs::Passage::under_three_of))]
 fn under_three(mut m: Meter) -> Passage
     ensures { result ≡ under_three_of m }
 {
@@ -31,6 +32,7 @@ fn under_three(mut m: Meter) -> Passage
 }
 
 // The count of service 2 is tried first, and then the credit of service 3.
+#[tactic(auto, unfolding(crate::specs::Passage::counted_of, crate::specs::Passage::passage_of))]
 pub fn passage_of(mut m: Meter, two: bool, three: bool) -> Passage
     ensures { result ≡ passage_of m two three }
 {

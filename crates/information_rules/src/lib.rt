@@ -1,4 +1,6 @@
 // USER INFORMATION: which service serves it. `messages` has what it is answered and what both sides are sent.
+#![tactic(auto)]
+
 ghost use Rattle.std.specs.Prelude.{◌≡◌};
 ghost use Rattle.information_rules.specs.Serving.{late_of, serves_two_of, serves_three_of, served_of};
 

@@ -32,6 +32,7 @@ pub fn carrier_of(p: Passage) -> Carrier
 }
 
 // The sender is told once that there is no credit.
+#[tactic(auto, unfolding(sent::specs::Message::only_if_of))]
 pub fn to_sender(p: Passage) -> Sent
     ensures { result ≡ to_sender_of p }
 {
@@ -42,6 +43,7 @@ pub fn to_sender(p: Passage) -> Sent
 }
 
 // A message that passes goes on to the other side.
+#[tactic(auto, unfolding(sent::specs::Message::only_if_of))]
 pub fn to_receiver(p: Passage, more: bool) -> Sent
     ensures { result ≡ to_receiver_of p more }
 {

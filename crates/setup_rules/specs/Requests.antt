@@ -49,7 +49,7 @@ passed_request_of Request.Unasked had = Said.Nothing
 passed_request_of Request.Preferred had = cond had Said.Preferred Said.Nothing
 passed_request_of Request.Required had = cond had Said.Required Said.Nothing
 
--- "rejected_by_network for every asked service the rights lack"; where SETUP goes on these are the preferred ones.
+-- "rejectedByNetwork for every asked service the rights lack"; where SETUP goes on these are the preferred ones.
 -- "An implicit refusal is silent."
 abbrev pub network_refusal_of : Request → Bool → Said
 network_refusal_of Request.Unasked had = Said.Nothing
@@ -89,8 +89,8 @@ network_refusals_of rights q =
 unfoldable pub setup_phase_of : Bool → Phase
 setup_phase_of lacking = cond lacking Phase.Ended Phase.Requested
 
--- "RELEASE COMPLETE to the caller, cause 50, rejected_by_network for every asked service the rights lack"; otherwise
--- "CALL PROCEEDING to the caller with rejected_by_network for each explicit preferred service lacking"
+-- "RELEASE COMPLETE to the caller, cause 50, rejectedByNetwork for every asked service the rights lack"; otherwise
+-- "CALL PROCEEDING to the caller with rejectedByNetwork for each explicit preferred service lacking"
 unfoldable pub to_caller_of : Bool → Facilities → Sent
 to_caller_of lacking refusals =
     cond lacking (saying_of Kind.ReleaseComplete (Cause.Value not_subscribed) refusals false)

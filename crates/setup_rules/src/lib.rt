@@ -1,4 +1,6 @@
 // SETUP: what it asks for, held against the rights: how each service then stands, and what is said of it to each user.
+#![tactic(auto)]
+
 ghost use Rattle.std.specs.Prelude.{◌≡◌};
 ghost use Rattle.setup_rules.specs.Requests.{asked_standing_of, first_standing_of, lacking_of, passed_request_of, network_refusal_of, standings_of, lacks_of, network_refusals_of, passed_requests_of, setup_phase_of, to_caller_of, to_called_of, opening_of};
 
@@ -13,7 +15,7 @@ use user_element::{Note, Seen, goes_out, noted, whole};
 
 // What a SETUP that is taken makes of the call: its phase, how each service stands, the element's note, and the two
 // messages with what carries the element.
-#[derive(Drop)]
+#[derive(Clone, Copy)]
 pub struct Opening {
     pub phase: Phase,
     pub standings: Standings,
@@ -45,6 +47,7 @@ fn asked_standing(q: Request, had: bool) -> Standing
 }
 
 // Service 1 may be asked for by its element alone, and is then in force at once: nobody answers it.
+#[tactic(auto, unfolding(crate::specs::Requests::first_standing_of))]
 fn first_standing(q: Request, s: Seen, had: bool) -> Standing
     ensures { result ≡ first_standing_of q s had }
 {
@@ -100,6 +103,7 @@ fn network_refusal(q: Request, had: bool) -> Said
 }
 
 // How each service stands after SETUP.
+#[tactic(auto, unfolding(crate::specs::Requests::standings_of))]
 fn standings_of(rights: Rights, q: Requests, s: Seen) -> Standings
     ensures { result ≡ standings_of rights q s }
 {
@@ -114,6 +118,7 @@ fn standings_of(rights: Rights, q: Requests, s: Seen) -> Standings
 }
 
 // Whether the rights lack a required service.
+#[tactic(auto, unfolding(crate::specs::Requests::lacks_of))]
 fn lacks(rights: Rights, q: Requests) -> bool
     ensures { result ≡ lacks_of rights q }
 {
@@ -125,6 +130,7 @@ fn lacks(rights: Rights, q: Requests) -> bool
         | lacking(three, has(rights, Service::Three))
 }
 
+#[tactic(auto, unfolding(crate::specs::Requests::network_refusals_of))]
 fn network_refusals(rights: Rights, q: Requests) -> Facilities
     ensures { result ≡ network_refusals_of rights q }
 {
@@ -138,6 +144,7 @@ fn network_refusals(rights: Rights, q: Requests) -> Facilities
     }
 }
 
+#[tactic(auto, unfolding(crate::specs::Requests::passed_requests_of))]
 fn passed_requests(rights: Rights, q: Requests) -> Facilities
     ensures { result ≡ passed_requests_of rights q }
 {
@@ -151,6 +158,7 @@ fn passed_requests(rights: Rights, q: Requests) -> Facilities
     }
 }
 
+#[tactic(auto, unfolding(crate::specs::Requests::setup_phase_of))]
 fn setup_phase(lacking: bool) -> Phase
     ensures { result ≡ setup_phase_of lacking }
 {
@@ -162,6 +170,7 @@ fn setup_phase(lacking: bool) -> Phase
 }
 
 // The caller hears what the rights lack, whether the call ends or goes on.
+#[tactic(auto, unfolding(crate::specs::Requests::to_caller_of))]
 fn to_caller(lacking: bool, refusals: Facilities) -> Sent
     ensures { result ≡ to_caller_of lacking refusals }
 {
@@ -177,6 +186,7 @@ fn to_caller(lacking: bool, refusals: Facilities) -> Sent
     }
 }
 
+#[tactic(auto, unfolding(crate::specs::Requests::to_called_of))]
 fn to_called(lacking: bool, requests: Facilities, element: bool) -> Sent
     ensures { result ≡ to_called_of lacking requests element }
 {
@@ -188,6 +198,7 @@ fn to_called(lacking: bool, requests: Facilities, element: bool) -> Sent
 }
 
 // The element goes on where the message does and service 1 remains.
+#[tactic(auto, unfolding(crate::specs::Requests::setup_carries_of))]
 pub fn opens(rights: Rights, q: Requests, s: Seen) -> Opening
     ensures { result ≡ opening_of rights q s }
 {

@@ -1,9 +1,3 @@
-pub mod Rows
-pub mod Arms
-pub mod Ends
-pub mod Dropped
-pub mod Lent
-pub mod Asked
 pub mod Along
 pub mod Live
 pub mod Searched

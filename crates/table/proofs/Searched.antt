@@ -1,5 +1,5 @@
 -- What a search for a later record of the same reference shows of a table.
-use mathlib.Core.Path.{◌≡◌, refl, sym, ◌∙◌, ap}
+use mathlib.Core.Path.{◌≡◌, refl, sym, ◌∙◌, ap, subst}
 use Prim.Native.Nat.{ℕ, ◌+◌, ◌<◌}
 use native.Mathlib.Nat.{le_refl}
 use mathlib.Core.Bool.{Bool, true, false, cond, not, ◌&&◌, ◌||◌}
@@ -58,3 +58,25 @@ stops false y h = refl
 pub goes_on : (x y : Bool) → Holds (not (not x)) → x && y ≡ y
 goes_on true y h = refl
 goes_on false y h = absurd h
+
+-- What a turn answers, t, where the record at i is c and the search for its later twin, from j on, gives r.
+-- there: it is at fault. onward: it is not.
+said : (l : List Call) (i : ℕ) {c : Call} {j : ℕ} {r : Spot} {t : Bool} → c ≡ get_or l i fresh_call
+    → j ≡ search_from_of c (i + 1) (length l) → r ≡ first_from (drop j l) j (Sought.Live c.reference) → t ≡ fault_of c r
+    → t ≡ not (alone_at l i)
+said l i {c} ec ej er et =
+    et ∙ ap (fault_of c) (er ∙ ap (λ (m : ℕ). first_from (drop m l) m (Sought.Live c.reference)) ej) ∙ fault_says l c i
+    ∙ ap (λ (d : Call). not (sound_of d && not (live_of d.phase && held_in (drop (i + 1) l) d.reference))) ec
+
+pub there : (l : List Call) (i : ℕ) → i < length l → {c : Call} {j : ℕ} {r : Spot} {t : Bool} → c ≡ get_or l i fresh_call
+    → j ≡ search_from_of c (i + 1) (length l) → r ≡ first_from (drop j l) j (Sought.Live c.reference) → t ≡ fault_of c r → t ≡ true
+    → false ≡ calls_sound (drop i l)
+there l i h ec ej er et at =
+    sym (sounds l i h ∙ stops (alone_at l i) (calls_sound (drop (i + 1) l)) (subst Holds (sym at ∙ said l i ec ej er et) tt))
+
+pub onward : (l : List Call) (i : ℕ) → i < length l → {c : Call} {j : ℕ} {r : Spot} {t : Bool} → c ≡ get_or l i fresh_call
+    → j ≡ search_from_of c (i + 1) (length l) → r ≡ first_from (drop j l) j (Sought.Live c.reference) → t ≡ fault_of c r → t ≡ false
+    → calls_sound (drop i l) ≡ calls_sound (drop (i + 1) l)
+onward l i h ec ej er et at =
+    sounds l i h
+    ∙ goes_on (alone_at l i) (calls_sound (drop (i + 1) l)) (subst (λ (u : Bool). Holds (not u)) (sym at ∙ said l i ec ej er et) tt)

@@ -1,4 +1,1 @@
-pub mod Lends
-pub mod Again
-pub mod Looks
 pub mod Planned

@@ -8,13 +8,13 @@ use event::Event;
 use rights::{reference_fits, rights_fit};
 
 // The place of a record, or that there is none.
-#[derive(Drop)]
+#[derive(Clone, Copy)]
 pub enum Spot {
     At(usize),
     Nothing,
 }
 
-#[derive(Drop)]
+#[derive(Clone, Copy)]
 pub enum Choice {
     At(usize),
     Refused(Verdict),
@@ -22,7 +22,7 @@ pub enum Choice {
 
 // What an event wants of the table: SETUP a new place, under its own reference, with reference and rights in range or
 // not; any other event the place of a call that is there.
-#[derive(Drop)]
+#[derive(Clone, Copy)]
 pub enum Wanted {
     New(u16, bool),
     Old,
@@ -84,6 +84,7 @@ fn old_place(held: Spot) -> Choice
     }
 }
 
+#[tactic(auto, unfolding(crate::specs::Choice::choose_of))]
 pub(crate) fn choose(whole: bool, wanted: Wanted, held: Spot, free: Spot) -> Choice
     ensures { result ≡ choose_of whole wanted held free }
 {

@@ -1,5 +1,7 @@
 // A lent table of call records: the live record of a reference, the lowest free place, and whether all is sound;
 // numbers 21 to 25.
+#![tactic(auto)]
+
 ghost use Rattle.std.specs.Prelude.{◌≡◌, get_or, drop};
 ghost use Rattle.call.specs.Sound.{fresh_call};
 ghost use Rattle.table.specs.First.{first_from};
@@ -80,6 +82,7 @@ fn calls_sound(t: &[Call]) -> bool
 }
 
 // Not over 32 records, no two live ones of one reference, and every live one sound.
+#[tactic(auto, unfolding(crate::specs::Table::table_sound))]
 pub(crate) fn sound(t: &[Call]) -> bool
     ensures { result ≡ table_sound t.now }
 {

@@ -9,20 +9,20 @@ use call::Call;
 use event::Event;
 
 // What the table shows of an event: the place that it goes to and the record there, or the number that the table gives.
-#[derive(Drop)]
+#[derive(Clone, Copy)]
 pub enum Looked {
     At(usize, Call),
     Refused(Verdict),
 }
 
 // What is put into the table: a record at a place, or nothing.
-#[derive(Drop)]
+#[derive(Clone, Copy)]
 pub enum Change {
     At(usize, Call),
     Nothing,
 }
 
-#[derive(Drop)]
+#[derive(Clone, Copy)]
 pub struct Plan {
     pub put: Change,
     pub outcome: Outcome,

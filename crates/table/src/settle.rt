@@ -11,7 +11,7 @@ use event::Event;
 use sent::dispatch::{Dispatch, nothing_sent};
 use user_element::Note;
 
-#[derive(Drop)]
+#[derive(Clone, Copy)]
 pub struct Outcome {
     pub verdict: Verdict,
     pub note: Note,
@@ -19,13 +19,14 @@ pub struct Outcome {
 }
 
 // call: what the place holds afterwards.
-#[derive(Drop)]
+#[derive(Clone, Copy)]
 pub struct Settled {
     pub call: Call,
     pub outcome: Outcome,
 }
 
 // SETUP starts a new call, whatever its place held.
+#[tactic(auto, unfolding(crate::specs::Settle::subject_of))]
 fn subject(c: Call, wanted: Wanted) -> Call
     ensures { result ≡ subject_of c wanted }
 {
@@ -43,6 +44,7 @@ fn changes(a: Answer) -> bool
 }
 
 // What a place that held c holds after the reply.
+#[tactic(auto, unfolding(crate::specs::Settle::record_kept_of))]
 fn kept(c: Call, r: Reply) -> Call
     ensures { result ≡ record_kept_of c r }
 {
@@ -51,6 +53,7 @@ fn kept(c: Call, r: Reply) -> Call
     if changes(a) { next } else { c }
 }
 
+#[tactic(auto, unfolding(crate::specs::Settle::heard_outcome_of))]
 fn answered(r: Reply) -> Outcome
     ensures { result ≡ heard_outcome_of r }
 {
@@ -65,6 +68,7 @@ fn answered(r: Reply) -> Outcome
 }
 
 // A number of the table's: nothing is noted and nothing sent.
+#[tactic(auto, unfolding(crate::specs::Settle::table_refusal_of))]
 pub(crate) fn refusal(v: Verdict) -> Outcome
     ensures { result ≡ table_refusal_of v }
 {
@@ -75,6 +79,7 @@ pub(crate) fn refusal(v: Verdict) -> Outcome
     }
 }
 
+#[tactic(auto, unfolding(crate::specs::Settle::settled_of))]
 pub(crate) fn settles(c: Call, event: Event, element: &[u8]) -> Settled
     ensures { result ≡ settled_of c event element.now }
 {

@@ -6,7 +6,7 @@ use crate::choice::Spot;
 use call::Call;
 
 // What a table is looked through for: a free place, or the live record of a reference.
-#[derive(Drop)]
+#[derive(Clone, Copy)]
 pub enum Sought {
     Free,
     Live(u16),
@@ -31,6 +31,7 @@ fn is_at(f: Spot) -> bool
 }
 
 // f: where a later live record has the reference of c.
+#[tactic(auto, unfolding(crate::specs::Sought::fault_of))]
 pub(crate) fn at_fault(c: Call, f: Spot) -> bool
     ensures { result ≡ fault_of c f }
 {
@@ -38,6 +39,7 @@ pub(crate) fn at_fault(c: Call, f: Spot) -> bool
 }
 
 // Where to look for another record of the same reference: nowhere, if the record is not live.
+#[tactic(auto, unfolding(crate::specs::Sought::search_from_of))]
 pub(crate) fn later(c: Call, next: usize, end: usize) -> usize
     ensures { result ≡ search_from_of c next end }
 {

@@ -12,6 +12,7 @@ use call::Call;
 use event::Event;
 
 // What the table shows of an event.
+#[tactic(auto, unfolding(crate::specs::Halves::look_of))]
 pub fn look(t: &[Call], reference: u16, event: Event) -> Looked
     ensures { result ≡ look_of t.now reference event }
 {
@@ -53,6 +54,7 @@ pub fn step(t: &mut [Call], reference: u16, event: Event, element: &[u8]) -> Out
 }
 
 // What the table says of an event.
+#[tactic(auto, unfolding(crate::specs::Choice::chosen_of))]
 fn chosen(t: &[Call], reference: u16, event: Event) -> Choice
     ensures { result ≡ chosen_of t.now reference event }
 {

@@ -5,7 +5,7 @@ ghost use Rattle.table.specs.Verdict.{verdict_number};
 use answer::{Answer, number};
 
 // Heard: an answer that a call gives too. The others only a table gives.
-#[derive(Drop)]
+#[derive(Clone, Copy)]
 pub enum Verdict {
     Heard(Answer),
     NoPlace,
