@@ -1,16 +1,15 @@
 -- A head is put together in 12 octets, of which as many count as come before the element field.
-use Prim.Native.Nat.{ℕ, zero, suc, ◌+◌, ◌-◌, ◌/◌, ◌%◌, ◌<◌, ◌≤◌}
+use Prim.Native.Nat.{ℕ, zero, suc, ◌-◌, ◌/◌, ◌%◌, ◌≤◌}
 use mathlib.Core.List.{List, [], ◌∷◌}
 use mathlib.Core.Path.{◌≡◌, refl, sym, ap, ◌∙◌}
 use native.Mathlib.Omega.{arith}
 use lib.ListN.{length, take, set, replicate, length-set, length-replicate}
-use lib.Seq.{length-take-le}
 use Rattle.event.specs.declared.Event.{Event}
 use Rattle.trace.specs.declared.kind.RecordKind.{RecordKind}
 use Rattle.trace.specs.declared.kind.Layout.{Layout}
 use Rattle.trace.specs.Kind.{layout_of}
 use Rattle.recorder.specs.declared.Head.{Head}
-use Rattle.recorder.specs.Writing.{three_in, rights_in, fields_in, head_of, head_as, Holds}
+use Rattle.recorder.specs.Writing.{fields_in, head_of, head_as, Holds}
 
 -- nothing is put behind the end
 pub set_behind : (l : List ℕ) (i x : ℕ) → length l ≤ i → set l i x ≡ l

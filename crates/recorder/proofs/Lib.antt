@@ -1,4 +1,3 @@
-pub mod Groups
 pub mod Heads
 pub mod Joining
 pub mod Sizing

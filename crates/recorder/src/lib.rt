@@ -1,4 +1,6 @@
 // A record of a trace, written into a buffer that the caller lends, or why it is not; numbers 6 and 7.
+#![tactic(auto)]
+
 ghost use Rattle.std.specs.Prelude.{◌≡◌, cond, [], ◌∷◌, ◌++◌, ◌≤◌, ◌+◌, ◌/◌, ◌%◌, length, take, set, replicate};
 ghost use Rattle.memory.specs.Room.{Written};
 ghost use Rattle.recorder.specs.Writing.{flag_octet, side_octet, request_octet, given_octet, what_octet, field_octets, kind_for, three_in, rights_in, fields_in, head_of, head_as, head_octets, Holds, fielded_of, record_octets, event_fits_of, record_fits_of};
@@ -13,7 +15,7 @@ use trace::kind::{Layout, NamedKind, RecordKind, layout_of};
 use user_element::writable::element_fits;
 
 // What comes before the element field of a record: its first octets, so many as `size` says.
-#[derive(Drop)]
+#[derive(Clone, Copy)]
 struct Head {
     octets: [u8; 12],
     size: usize,
@@ -140,6 +142,7 @@ fn event_fits(r: u16, e: Event) -> bool
 }
 
 // Whether a trace can hold the event with its element.
+#[tactic(auto, unfolding(crate::specs::Writing::record_fits_of))]
 pub fn record_fits(r: u16, e: Event, u: &[u8]) -> bool
     ensures { result ≡ record_fits_of r e u.now }
 {

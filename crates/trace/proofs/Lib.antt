@@ -1,4 +1,3 @@
 pub mod Blank
-pub mod Forms
 pub mod Naming
 pub mod Rows

@@ -24,6 +24,7 @@ fn blank(s: &[u8], from: usize) -> bool
 }
 
 // Whether the element field at a place is n octets, beginning 126 and n - 2, or says that there are none.
+#[tactic(auto, unfolding(crate::specs::ElementField::form_fits_of))]
 pub(crate) fn form_fits(t: &[u8], p: usize) -> bool
     ensures { result ≡ form_fits_of p t.now }
 {
@@ -41,6 +42,7 @@ pub(crate) fn form_fits(t: &[u8], p: usize) -> bool
 }
 
 // Whether zeros follow the octets of the element field at a place.
+#[tactic(auto, unfolding(crate::specs::ElementField::zeros_fit_of))]
 pub(crate) fn zeros_fit(t: &[u8], p: usize) -> bool
     ensures { result ≡ zeros_fit_of p t.now }
 {

@@ -2,7 +2,7 @@
 ghost use Rattle.std.specs.Prelude.{◌≡◌};
 ghost use Rattle.trace.specs.Kind.{record_kind_of, layout_of, size_of};
 
-#[derive(Drop)]
+#[derive(Clone, Copy)]
 pub enum RecordKind {
     Setup,
     Alerting,
@@ -14,7 +14,7 @@ pub enum RecordKind {
     Tick,
 }
 
-#[derive(Drop)]
+#[derive(Clone, Copy)]
 pub enum NamedKind {
     Unknown,
     Known(RecordKind),
@@ -23,7 +23,7 @@ pub enum NamedKind {
 // octet: what the octet of kind is. Then where each field stands, the octet of kind counted as 0; 0 for a kind without
 // the field. rights: services, and behind it late, leave, limit, X and Y; requests and answers: three octets each;
 // element: the element field. size: how many octets the record has, its octet of kind included.
-#[derive(Drop)]
+#[derive(Clone, Copy)]
 pub struct Layout {
     pub octet: u8,
     pub rights: usize,
@@ -36,6 +36,7 @@ pub struct Layout {
     pub size: usize,
 }
 
+#[tactic(auto, unfolding(crate::specs::Kind::record_kind_of))]
 pub(crate) fn record_kind_in(x: u8) -> NamedKind
     ensures { result ≡ record_kind_of x }
 {

@@ -1,4 +1,6 @@
 // A record of a trace, read: its event, and its element as a part of the trace; numbers 31 to 33.
+#![tactic(auto)]
+
 ghost use Rattle.std.specs.Prelude.{◌≡◌};
 ghost use Rattle.trace.specs.declared.kind.NamedKind.{NamedKind};
 ghost use Rattle.trace.specs.Reading.{record_reference_of, rights_of, named_of, requests_of, answers_of, event_of, count_of, entry_of, record_of, element_of};
@@ -19,7 +21,7 @@ mod values;
 
 // The fields that have a range. Element: how many octets, and the two that an element begins with; Zeros: what follows
 // an element in its field.
-#[derive(Drop)]
+#[derive(Clone, Copy)]
 pub enum Field {
     Late,
     Leave,
@@ -33,7 +35,7 @@ pub enum Field {
 }
 
 // Why a trace goes on no further: an unknown kind, a record that is cut short, the first field that is out of range.
-#[derive(Drop)]
+#[derive(Clone, Copy)]
 pub enum Fault {
     Kind,
     Short,
@@ -41,7 +43,7 @@ pub enum Fault {
 }
 
 // at: where the element's octets begin in the record; count: how many there are, 0 for absent.
-#[derive(Drop)]
+#[derive(Clone, Copy)]
 pub struct Entry {
     pub kind: RecordKind,
     pub reference: u16,
@@ -50,13 +52,14 @@ pub struct Entry {
     pub count: usize,
 }
 
-#[derive(Drop)]
+#[derive(Clone, Copy)]
 pub enum Record {
     End,
     Taken(Entry),
     Refused(Fault),
 }
 
+#[tactic(auto, unfolding(crate::specs::Reading::record_reference_of))]
 fn reference(t: &[u8]) -> u16
     ensures { result ≡ record_reference_of t.now }
 {
@@ -64,6 +67,7 @@ fn reference(t: &[u8]) -> u16
 }
 
 // Six octets from a place on.
+#[tactic(auto, unfolding(crate::specs::Reading::rights_of))]
 fn rights(t: &[u8], p: usize) -> Rights
     ensures { result ≡ rights_of p t.now }
 {
@@ -77,6 +81,7 @@ fn rights(t: &[u8], p: usize) -> Rights
     }
 }
 
+#[tactic(auto, unfolding(crate::specs::Reading::requests_of))]
 fn requests(t: &[u8], p: usize) -> Requests
     ensures { result ≡ requests_of p t.now }
 {
@@ -87,6 +92,7 @@ fn requests(t: &[u8], p: usize) -> Requests
     }
 }
 
+#[tactic(auto, unfolding(crate::specs::Reading::answers_of))]
 fn answers(t: &[u8], p: usize) -> Answers
     ensures { result ≡ answers_of p t.now }
 {
@@ -134,6 +140,7 @@ fn event(k: RecordKind, l: Layout, t: &[u8]) -> Event
 }
 
 // How many octets the element has whose number stands at a place.
+#[tactic(auto, unfolding(crate::specs::Reading::count_of))]
 fn count(t: &[u8], p: usize) -> usize
     ensures { result ≡ count_of p t.now }
 {
@@ -143,6 +150,7 @@ fn count(t: &[u8], p: usize) -> usize
     wide(octet_at(t, p, 0))
 }
 
+#[tactic(auto, unfolding(crate::specs::Reading::entry_of))]
 fn taken(k: RecordKind, t: &[u8]) -> Entry
     ensures { result ≡ entry_of k t.now }
 {
@@ -169,6 +177,7 @@ fn read_kind(k: RecordKind, t: &[u8]) -> Record
 }
 
 // The record at the front of a trace.
+#[tactic(auto, unfolding(crate::specs::Reading::record_of))]
 pub fn read_record(t: &[u8]) -> Record
     ensures { result ≡ record_of t.now }
 {
@@ -182,6 +191,7 @@ pub fn read_record(t: &[u8]) -> Record
 }
 
 // The element of a record, as the very part of the trace; empty where there is none.
+#[tactic(auto, unfolding(crate::specs::Reading::element_of))]
 pub fn element<'a>(t: &'a [u8], e: Entry) -> &'a [u8]
     ensures { result.now ≡ element_of e t.now }
 {

@@ -9,7 +9,7 @@ use crate::kind::Layout;
 use crate::values::octet_at;
 use rights::Service;
 
-#[derive(Drop)]
+#[derive(Clone, Copy)]
 pub enum Tested {
     InRange,
     Out(Field),
@@ -26,6 +26,7 @@ fn first(a: Tested, b: Tested) -> Tested
 }
 
 // An octet of the field at a place, held to the most that it may be.
+#[tactic(auto, unfolding(crate::specs::Ranges::up_to_of))]
 fn up_to(t: &[u8], f: Field, most: u8, p: usize, i: usize) -> Tested
     ensures { result ≡ up_to_of f most p i t.now }
 {
@@ -49,6 +50,7 @@ fn three(t: &[u8], a: Field, b: Field, c: Field, p: usize) -> Tested
     first(one, first(two, three))
 }
 
+#[tactic(auto, unfolding(crate::specs::Ranges::three_of))]
 fn requests_out(t: &[u8], p: usize) -> Tested
     ensures { result ≡ three_of Field.Request p t.now }
 {
@@ -61,6 +63,7 @@ fn requests_out(t: &[u8], p: usize) -> Tested
     )
 }
 
+#[tactic(auto, unfolding(crate::specs::Ranges::three_of))]
 fn answers_out(t: &[u8], p: usize) -> Tested
     ensures { result ≡ three_of Field.Answer p t.now }
 {
@@ -73,6 +76,7 @@ fn answers_out(t: &[u8], p: usize) -> Tested
     )
 }
 
+#[tactic(auto, unfolding(crate::specs::Ranges::element_out_of))]
 fn element_out(t: &[u8], p: usize) -> Tested
     ensures { result ≡ element_out_of p t.now }
 {
@@ -88,6 +92,7 @@ fn element_out(t: &[u8], p: usize) -> Tested
 }
 
 // The first field of a record, from left to right, that is out of range.
+#[tactic(auto, unfolding(crate::specs::Ranges::first_out_of))]
 pub(crate) fn first_out(l: Layout, t: &[u8]) -> Tested
     ensures { result ≡ first_out_of l t.now }
 {

@@ -19,18 +19,21 @@ pub(crate) fn octet_at(t: &[u8], p: usize, i: usize) -> u8
     t[p + i]
 }
 
+#[tactic(auto, unfolding(crate::specs::Values::flag_of))]
 pub(crate) fn flag_in(x: u8) -> bool
     ensures { result ≡ flag_of x }
 {
     x != 0
 }
 
+#[tactic(auto, unfolding(crate::specs::Values::side_of))]
 pub(crate) fn side_in(x: u8) -> Side
     ensures { result ≡ side_of x }
 {
     if x == 0 { Side::Calling } else { Side::Called }
 }
 
+#[tactic(auto, unfolding(crate::specs::Values::request_of))]
 pub(crate) fn request_in(x: u8) -> Request
     ensures { result ≡ request_of x }
 {
@@ -41,6 +44,7 @@ pub(crate) fn request_in(x: u8) -> Request
     }
 }
 
+#[tactic(auto, unfolding(crate::specs::Values::given_of))]
 pub(crate) fn given_in(x: u8) -> Given
     ensures { result ≡ given_of x }
 {
@@ -51,6 +55,7 @@ pub(crate) fn given_in(x: u8) -> Given
     }
 }
 
+#[tactic(auto, unfolding(crate::specs::Values::what_of))]
 pub(crate) fn what_in(x: u8) -> What
     ensures { result ≡ what_of x }
 {

@@ -20,7 +20,7 @@ level_item Level.Ready = (114 ∷ 101 ∷ 97 ∷ 100 ∷ 121 ∷ []) ∷ []
 level_item Level.NotReady = (110 ∷ 111 ∷ 116 ∷ 114 ∷ 101 ∷ 97 ∷ 100 ∷ 121 ∷ []) ∷ []
 
 -- for services 1, 2, 3 what is said of them, as `1.p` (asked as preferred), `1.r` (asked as required), `1.ok`
--- (accepted), `1.user` (rejected_by_user), `1.network` (rejected_by_network); the digit is that of the service
+-- (accepted), `1.user` (rejectedByUser), `1.network` (rejectedByNetwork); the digit is that of the service
 abbrev pub said_item : ℕ → Said → List (List ℕ)
 said_item digit Said.Nothing = []
 said_item digit Said.Preferred = (digit ∷ 46 ∷ 112 ∷ []) ∷ []

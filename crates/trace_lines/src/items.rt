@@ -18,6 +18,7 @@ pub(crate) fn put(buf: &mut [u8], at: usize, piece: &[u8]) -> usize
     end_of(write_octets(buf, at, piece))
 }
 
+#[tactic(auto, unfolding(crate::specs::Items::commas))]
 fn put_cause(buf: &mut [u8], at: usize, c: Cause) -> usize
     requires { at + 27 ≤ length buf.old }
     ensures { Piece 27 at (commas (cause_item c)) buf.old buf.new result }
@@ -31,6 +32,7 @@ fn put_cause(buf: &mut [u8], at: usize, c: Cause) -> usize
     }
 }
 
+#[tactic(auto, unfolding(crate::specs::Items::commas))]
 fn put_level(buf: &mut [u8], at: usize, l: Level) -> usize
     requires { at + 9 ≤ length buf.old }
     ensures { Piece 9 at (commas (level_item l)) buf.old buf.new result }
@@ -43,6 +45,7 @@ fn put_level(buf: &mut [u8], at: usize, l: Level) -> usize
 }
 
 // What is said of the service with this digit.
+#[tactic(auto, unfolding(crate::specs::Items::commas))]
 fn put_said(buf: &mut [u8], at: usize, digit: u8, s: Said) -> usize
     requires { at + 10 ≤ length buf.old }
     ensures { Piece 10 at (commas (said_item digit s)) buf.old buf.new result }
@@ -61,6 +64,7 @@ fn put_said(buf: &mut [u8], at: usize, digit: u8, s: Said) -> usize
     }
 }
 
+#[tactic(auto, unfolding(crate::specs::Items::commas))]
 fn put_more(buf: &mut [u8], at: usize, more: bool) -> usize
     requires { at + 5 ≤ length buf.old }
     ensures { Piece 5 at (commas (more_item more)) buf.old buf.new result }
@@ -71,6 +75,7 @@ fn put_more(buf: &mut [u8], at: usize, more: bool) -> usize
     at
 }
 
+#[tactic(auto, unfolding(crate::specs::Items::commas))]
 fn put_element(buf: &mut [u8], at: usize, element: bool) -> usize
     requires { at + 8 ≤ length buf.old }
     ensures { Piece 8 at (commas (element_item element)) buf.old buf.new result }
@@ -82,6 +87,7 @@ fn put_element(buf: &mut [u8], at: usize, element: bool) -> usize
 }
 
 // All items of a message, each after a `,`.
+#[tactic(auto, unfolding(crate::specs::Items::items_of))]
 fn put_items(buf: &mut [u8], at: usize, m: Message) -> usize
     requires { at + 79 ≤ length buf.old }
     ensures { Piece 79 at (commas (items_of m)) buf.old buf.new result }

@@ -21,6 +21,7 @@ pub fn write_first(buf: &mut [u8], at: usize, explained: bool) -> Wrote
 }
 
 // Writes the line that ends a run at a fault of the trace.
+#[tactic(auto, unfolding(text::specs::Decimal::decimal_of, text::specs::Decimal::digits_of))]
 pub fn write_fault(buf: &mut [u8], at: usize, f: Fault) -> Wrote
     ensures { Written true at (fault_line f) buf.old buf.new result }
 {

@@ -19,7 +19,7 @@ use trace::kind::RecordKind;
 use user_element::Note;
 
 // What the columns of a record say. answer: the paper's number.
-#[derive(Drop)]
+#[derive(Clone, Copy)]
 pub struct Columns {
     pub kind: RecordKind,
     pub reference: u16,
@@ -45,6 +45,7 @@ fn put_type(buf: &mut [u8], at: usize, s: Sent) -> usize
     }
 }
 
+#[tactic(auto, unfolding(crate::specs::Line::type_columns))]
 fn put_types(buf: &mut [u8], at: usize, o: Columns) -> usize
     requires { at + 6 ≤ length buf.old }
     ensures { Piece 6 at (type_columns o) buf.old buf.new result }
@@ -95,6 +96,7 @@ fn put_number(buf: &mut [u8], at: usize, n: u64) -> usize
     end_of(write_decimal(buf, at + 1, n))
 }
 
+#[tactic(auto, unfolding(crate::specs::Line::number_columns))]
 fn put_numbers(buf: &mut [u8], at: usize, o: Columns) -> usize
     requires { at + 83 ≤ length buf.old }
     ensures { Piece 83 at (number_columns o) buf.old buf.new result }
@@ -110,6 +112,7 @@ fn put_numbers(buf: &mut [u8], at: usize, o: Columns) -> usize
 }
 
 // A whole line, where there is room for the longest.
+#[tactic(auto, unfolding(crate::specs::Line::line_of))]
 fn put_line(buf: &mut [u8], at: usize, explained: bool, o: Columns) -> usize
     requires { at + 248 ≤ length buf.old }
     ensures { Piece 248 at (line_of explained o) buf.old buf.new result }

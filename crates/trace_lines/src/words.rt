@@ -71,6 +71,7 @@ fn put_numbered(buf: &mut [u8], at: usize, word: &[u8], n: u64) -> usize
     end_of(write_decimal(buf, a, n))
 }
 
+#[tactic(auto, unfolding(crate::specs::Words::place_words))]
 fn put_place(buf: &mut [u8], at: usize, number: u64, octet: u64) -> usize
     requires { at + 59 ≤ length buf.old }
     ensures { Piece 59 at (place_words number octet) buf.old buf.new result }
@@ -80,6 +81,7 @@ fn put_place(buf: &mut [u8], at: usize, number: u64, octet: u64) -> usize
     put(buf, b, b": ")
 }
 
+#[tactic(auto, unfolding(crate::specs::Words::words_of))]
 fn put_words(buf: &mut [u8], at: usize, number: u64, octet: u64, f: Fault) -> usize
     requires { at + 100 ≤ length buf.old }
     ensures { Piece 100 at (words_of number octet f) buf.old buf.new result }

@@ -31,7 +31,7 @@ use Rattle.table.specs.Halves.{look_of, committed}
 use Rattle.table.proofs.step.Planned.{plan_told, plan_put}
 use Rattle.table_promises.proofs.Table.{one_place}
 use Rattle.trace_run.specs.Front.{heeded_of, front_of, reference_in, event_in}
-use Rattle.trace_run.specs.Course.{turned_at, Answered, answered_at, Output}
+use Rattle.trace_run.specs.Course.{turned_at, answered_at, Output}
 use Rattle.trace_run.specs.Entry.{planned_at}
 use Rattle.trace_run.specs.Run.{line_at, Ran, ran_text, rests, ends, goes, run_in, trace_run_of, so_far, WorkedOff}
 use Rattle.trace_run.specs.Turn.{halts}
@@ -162,14 +162,14 @@ module _ (p : Output) (last : Bool) (first : List Call) (c l : List ℕ) (table 
     turns : to_come s.fuel ≡ cond (leb (length (p.fault f)) (length out - k)) (ends table f) (rests table)
     turns = let h = faulty_some last c i faulty in run_faulty p last (length out - k) table (drop i c) s.fuel (omega (arith, s.going.enough)) faulty
 
-    fault-full : length out < k + length (p.fault f) → WorkedOff p last first c l out (record { calls = table; used = i; wrote = k; records = n; end = Ending.Open })
-    fault-full r =
+    fault_full : length out < k + length (p.fault f) → WorkedOff p last first c l out (record { calls = table; used = i; wrote = k; records = n; end = Ending.Open })
+    fault_full r =
         let g = s.going in
         let t = lt-leb (length (p.fault f)) (length out - k) (omega (arith, g.room, r)) in
         stop s.fuel g (turns ∙ ap (λ (b : Bool). cond b (ends table f) (rests table)) t)
 
-    fault-put : k + length (p.fault f) ≤ length out → WorkedOff p last first c l (placed k (p.fault f) out) (record { calls = table; used = i; wrote = k + length (p.fault f); records = n; end = Ending.By f })
-    fault-put r =
+    fault_put : k + length (p.fault f) ≤ length out → WorkedOff p last first c l (placed k (p.fault f) out) (record { calls = table; used = i; wrote = k + length (p.fault f); records = n; end = Ending.By f })
+    fault_put r =
         let g = s.going in
         let t = le-leb (length (p.fault f)) (length out - k) (omega (arith, r)) in
         let u : to_come s.fuel ≡ ends table f = turns ∙ ap (λ (b : Bool). cond b (ends table f) (rests table)) t in
@@ -192,12 +192,12 @@ module _ (p : Output) (last : Bool) (first : List Call) (c l : List ℕ) (table 
     chosen : Bool → ℕ → Ran
     chosen b fuel = cond b (goes (size_of e.kind) (answered_at table e (drop i c)) (later fuel)) (rests table)
 
-    line-full : (fuel : ℕ) → Going p last first c l fuel table out i k n → length out < k + length line → WorkedOff p last first c l out (record { calls = table; used = i; wrote = k; records = n; end = Ending.Open })
+    line_full : (fuel : ℕ) → Going p last first c l fuel table out i k n → length out < k + length line → WorkedOff p last first c l out (record { calls = table; used = i; wrote = k; records = n; end = Ending.Open })
     unfolding chosen
-    line-full zero g r =
+    line_full zero g r =
         let m = whole_fits last c i whole in
         absurd (omega (arith, g.enough, least e.kind))
-    line-full (suc fuel) g r =
+    line_full (suc fuel) g r =
         let t = lt-leb (length line) (length out - k) (omega (arith, g.room, r)) in
         stop (suc fuel) g (run_whole p last (length out - k) table (drop i c) fuel whole ∙ ap (λ (b : Bool). chosen b fuel) t)
 
@@ -213,12 +213,12 @@ module _ (p : Output) (last : Bool) (first : List Call) (c l : List ℕ) (table 
           let left : length out - k - length line ≡ length (placed k line out) - (k + length line) = omega arith in
           run_whole p last (length out - k) table (drop i c) fuel whole ∙ ap (λ (b : Bool). chosen b fuel) t ∙ rw (left, drop-drop (size_of e.kind) i c)
 
-      line-put : (fuel : ℕ) → Going p last first c l fuel table out i k n → Goes p last first c l (turned_at table e (drop i c)).calls (placed k line out) (i + size_of e.kind) (k + length line) (n + 1)
+      line_put : (fuel : ℕ) → Going p last first c l fuel table out i k n → Goes p last first c l (turned_at table e (drop i c)).calls (placed k line out) (i + size_of e.kind) (k + length line) (n + 1)
       unfolding line_at
-      line-put zero g =
+      line_put zero g =
           let m = whole_fits last c i whole in
           absurd (omega (arith, g.enough, least e.kind))
-      line-put (suc f) g =
+      line_put (suc f) g =
           let m = whole_fits last c i whole in
           let a = as_long in
           record {
@@ -309,11 +309,11 @@ module _ (p : Output) (last : Bool) (first : List Call) (c l : List ℕ) (s : St
               long = length_placed s.wrote (p.fault f) out n ∙ kept.long;
               counted = kept.counted;
               going = λ e. absurd (true≢false (sym e));
-              over = λ _. fault-put p last first c l table out s.used s.wrote s.records goes_on h n;
+              over = λ _. fault_put p last first c l table out s.used s.wrote s.records goes_on h n;
             };
         less = some_left;
       }
-  turn_by (Front.Faulty f) false h r = halted (fault-full p last first c l table out s.used s.wrote s.records goes_on h (leb-false _ _ r))
+  turn_by (Front.Faulty f) false h r = halted (fault_full p last first c l table out s.used s.wrote s.records goes_on h (leb-false _ _ r))
   turn_by (Front.Whole e) true h r =
       let n = leb-true _ _ (rw (line_so e) at r) in
       let w = whole_fits last c s.used h in
@@ -323,12 +323,12 @@ module _ (p : Output) (last : Bool) (first : List Call) (c l : List ℕ) (s : St
               same = rw (left_so e) (same_so e);
               long = rw (line_so e) (length_placed s.wrote (line_at p table e t) out n ∙ kept.long);
               counted = omega (arith, kept.counted, least e.kind);
-              going = λ _. rw (left_so e, line_so e) (line-put p last first c l table out s.used s.wrote s.records e h n goes_on.fuel goes_on.going);
+              going = λ _. rw (left_so e, line_so e) (line_put p last first c l table out s.used s.wrote s.records e h n goes_on.fuel goes_on.going);
               over = λ e. absurd (true≢false e);
             };
         less = rw more (omega (arith, least e.kind));
       }
-  turn_by (Front.Whole e) false h r = halted (line-full p last first c l table out s.used s.wrote s.records e h goes_on.fuel goes_on.going (leb-false _ _ (rw (line_so e) at r)))
+  turn_by (Front.Whole e) false h r = halted (line_full p last first c l table out s.used s.wrote s.records e h goes_on.fuel goes_on.going (leb-false _ _ (rw (line_so e) at r)))
 
   pub turns_on : {f : Front} {k : Looked} {out' : List ℕ} {m : Move} → f ≡ front_of last t → k ≡ look_of table (reference_in f) (event_in f) → Moved p f k t s out out' m → Onward out' m
   turns_on {f} {k} ef ek w =

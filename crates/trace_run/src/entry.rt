@@ -9,6 +9,7 @@ use trace::{Entry, element};
 use trace_lines::report::Columns;
 
 // The record's event, at what the table shows of it.
+#[tactic(auto, unfolding(crate::specs::Entry::planned_at))]
 pub(crate) fn planned(l: Looked, e: Entry, t: &[u8]) -> Plan
     ensures { result ≡ planned_at l e t.now }
 {
@@ -16,6 +17,7 @@ pub(crate) fn planned(l: Looked, e: Entry, t: &[u8]) -> Plan
     plans(l, event, element(t, e))
 }
 
+#[tactic(auto, unfolding(crate::specs::Entry::columns_of))]
 pub(crate) fn columns_of(e: Entry, o: Outcome) -> Columns
     ensures { result ≡ columns_of e o }
 {

@@ -6,13 +6,14 @@ use event::Event;
 use trace::{Entry, Fault, Record, read_record};
 
 // What a piece of trace begins with. Waits: there is nothing, or the rest of a record has yet to come.
-#[derive(Drop)]
+#[derive(Clone, Copy)]
 pub enum Front {
     Waits,
     Faulty(Fault),
     Whole(Entry),
 }
 
+#[tactic(auto, unfolding(crate::specs::Front::front_of))]
 pub(crate) fn front_of(last: bool, t: &[u8]) -> Front
     ensures { result ≡ front_of last t.now }
 {

@@ -1,4 +1,6 @@
 // A piece of trace worked off at a lent table, or at one by value: each record's event, and its line.
+#![tactic(auto)]
+
 ghost use Rattle.std.specs.Prelude.{◌≡◌, false, ◌+◌, ◌≤◌, length, drop};
 ghost use Rattle.trace.specs.Kind.{size_of};
 ghost use Rattle.trace_run.specs.declared.front.Front.{Front};
@@ -23,7 +25,7 @@ pub mod turn;
 
 // used: how many octets of the piece; wrote: how many octets of text; records: how many records; end: whether a fault
 // ended the run.
-#[derive(Drop)]
+#[derive(Clone, Copy)]
 pub struct Worked {
     pub calls: [Call; 32],
     pub used: usize,

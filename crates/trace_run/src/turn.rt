@@ -10,7 +10,7 @@ use trace::Fault;
 use trace_lines::notices::write_fault;
 
 // Whether a fault ended a run, and which.
-#[derive(Drop)]
+#[derive(Clone, Copy)]
 pub enum Ending {
     Open,
     By(Fault),
@@ -18,7 +18,7 @@ pub enum Ending {
 
 // Where a run stands. used: how many octets of the piece; wrote: how many octets of text; records: how many records;
 // end: whether a fault ended the run; more: whether it goes on.
-#[derive(Drop)]
+#[derive(Clone, Copy)]
 pub struct Stand {
     pub used: usize,
     pub wrote: usize,
@@ -28,7 +28,7 @@ pub struct Stand {
 }
 
 // One turn of a run: what is put into the table, and where the run then stands.
-#[derive(Drop)]
+#[derive(Clone, Copy)]
 pub struct Move {
     pub put: Change,
     pub stand: Stand,
