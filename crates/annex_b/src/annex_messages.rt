@@ -112,7 +112,7 @@ pub(crate) fn longest(page: &mut [u8; 4096]) {
     m[1] = 1;
     m[2] = 5;
     m[3] = 0x20;
-    m[4] = 0x7_e;
+    m[4] = 0x7E;
     m[5] = 254;
     reads(page, b"260 octets", &m[0..260], b"0 20 0 5 - - - 4+256");
     reads(page, b"261 octets", &m[0..261], b"2 - - - - - - -");

@@ -1,15 +1,17 @@
 // Runs components laid out by hand as 7.1 defines them through the reader and the writer. There are some for each kind
 // that Annex B shows, whole messages with them, and damaged ones. It prints a line for each: a short name, what was
 // found, and `ok`, or `differs` where it is not what 7.1 says.
+#![tactic(auto)]
+
 mod annex_bodies;
 mod annex_case;
 mod annex_messages;
 
-use streams::send;
+use streams::{Host, send};
 use text::page::text_end;
 
 // Every case on one page, which is then sent.
-fn print(page: &mut [u8; 4096]) {
+fn print(rt: &impl Host, page: &mut [u8; 4096]) {
     crate::annex_bodies::requests(page);
     crate::annex_bodies::answers(page);
     crate::annex_bodies::cut_short(page);
@@ -30,10 +32,10 @@ fn print(page: &mut [u8; 4096]) {
     crate::annex_messages::out_of_range(page);
     crate::annex_messages::no_room(page);
     let n = text_end(page);
-    send(page, n);
+    send(rt, page, n);
 }
 
-fn main() {
+fn main(rt: HostRuntime) {
     let mut page = [0u8; 4096];
-    print(&mut page);
+    print(&rt, &mut page);
 }

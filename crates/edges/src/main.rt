@@ -1,6 +1,8 @@
 // Runs cases of calls that are easy to get wrong, and a whole call with every service. It prints a line for each event:
 // its name, the answer, the note, and the message to the calling and to the called user, with its type, its cause and
 // what it says of services. Where a meter is lent beside the call, what that answers and holds follows.
+#![tactic(auto)]
+
 mod lends;
 
 use crate::lends::{spend_in, tick_in};
@@ -17,7 +19,7 @@ use rights::Rights;
 use sent::side::Side;
 use sent::{Message, Sent};
 use services::{Answers, Facilities, Given, Request, Requests, Said};
-use streams::send;
+use streams::{Host, send};
 use text::page::{add, add_decimal, add_hex, text_end};
 
 fn show_cause(page: &mut [u8; 4096], c: Cause) {
@@ -393,7 +395,7 @@ fn closes(page: &mut [u8; 4096]) {
 }
 
 // A call, and the meter of its calling side, lent by the host.
-#[derive(Drop)]
+#[derive(Clone, Copy)]
 struct Beside {
     call: Call,
     meter: Meter,
@@ -449,7 +451,7 @@ fn metered(page: &mut [u8; 4096]) {
 }
 
 // Every case on one page, which is then sent.
-fn print(page: &mut [u8; 4096]) {
+fn print(rt: &impl Host, page: &mut [u8; 4096]) {
     whole(page);
     limits(page);
     required(page);
@@ -458,10 +460,10 @@ fn print(page: &mut [u8; 4096]) {
     closes(page);
     metered(page);
     let n = text_end(page);
-    send(page, n);
+    send(rt, page, n);
 }
 
-fn main() {
+fn main(rt: HostRuntime) {
     let mut page = [0u8; 4096];
-    print(&mut page);
+    print(&rt, &mut page);
 }

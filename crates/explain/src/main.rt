@@ -1,4 +1,6 @@
 // Explains a trace: the lines of `replay`, and what the messages of each record say.
-fn main() {
-    trace_program::run(true);
+#![tactic(auto)]
+
+fn main(rt: HostRuntime) {
+    trace_program::run(&rt, true);
 }

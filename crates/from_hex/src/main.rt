@@ -1,13 +1,15 @@
 // Turns hexadecimal digits into octets: standard input to standard output, in a fixed amount of memory. What the digits
 // spell is computed in `text::octets`; here octets are only read and written.
+#![tactic(auto)]
+
 use memory::{end_of, write_octets};
-use streams::{fetch, held, say, send};
+use streams::{Host, fetch, held, say, send};
 use text::decimal::write_decimal;
 use text::octets::{Reading, alone, read_octets, unread};
 
 // What of the text is in the buffer and not read yet, from one place to another; at: how many octets of the text came
 // before it; reading: where reading stands; fault: its next octet has no place there.
-#[derive(Drop)]
+#[derive(Clone, Copy)]
 struct Held {
     from: usize,
     to: usize,
@@ -19,9 +21,9 @@ struct Held {
 }
 
 // Nothing more comes at the text's end, nor after a read that failed.
-fn refill(buf: &mut [u8], h: Held) -> Held {
+fn refill(rt: &impl Host, buf: &mut [u8], h: Held) -> Held {
     let reading = h.reading;
-    let f = fetch(buf, h.from, h.to);
+    let f = fetch(rt, buf, h.from, h.to);
     Held {
         from: 0,
         to: f.to,
@@ -34,23 +36,23 @@ fn refill(buf: &mut [u8], h: Held) -> Held {
 }
 
 // Says which octet of the text, counted from 0, has no place there.
-fn say_fault(line: &mut [u8], at: u64) {
+fn say_fault(rt: &impl Host, line: &mut [u8], at: u64) {
     let named = end_of(write_octets(line, 0, b"octet "));
     let numbered = end_of(write_decimal(line, named, at));
     let n = end_of(write_octets(line, numbered, b" of the text: no hexadecimal digit\n"));
-    say(line, n);
+    say(rt, line, n);
 }
 
 // Sends the octets that what is held spells, up to a fault.
-fn spell(buf: &[u8], out: &mut [u8], h: Held) -> Held {
+fn spell(rt: &impl Host, buf: &[u8], out: &mut [u8], h: Held) -> Held {
     let before = h.reading;
     let r = read_octets(held(buf, h.from, h.to), before, out);
-    let sent = send(out, r.wrote);
+    let sent = send(rt, out, r.wrote);
     let reading = r.reading;
     Held {
-        from: std::num::wrapping_add_usize(h.from, r.used),
+        from: h.from.wrapping_add(r.used),
         to: h.to,
-        at: std::num::wrapping_add_u64(h.at, r.used as u64),
+        at: h.at.wrapping_add(r.used as u64),
         reading: reading,
         more: sent & !r.fault,
         ended: false,
@@ -58,29 +60,29 @@ fn spell(buf: &[u8], out: &mut [u8], h: Held) -> Held {
     }
 }
 
-fn turn(buf: &mut [u8], out: &mut [u8], h: Held) -> Held {
+fn turn(rt: &impl Host, buf: &mut [u8], out: &mut [u8], h: Held) -> Held {
     if h.from < h.to {
-        return spell(buf, out, h);
+        return spell(rt, buf, out, h);
     }
-    refill(buf, h)
+    refill(rt, buf, h)
 }
 
-fn step(buf: &mut [u8; 65536], out: &mut [u8; 65536], h: Held) -> Held {
-    turn(buf, out, h)
+fn step(rt: &impl Host, buf: &mut [u8; 65536], out: &mut [u8; 65536], h: Held) -> Held {
+    turn(rt, buf, out, h)
 }
 
 // Says what is wrong with the text, if anything is.
-fn last(line: &mut [u8; 65536], h: Held) {
+fn last(rt: &impl Host, line: &mut [u8; 65536], h: Held) {
     let reading = h.reading;
     if h.fault {
-        return say_fault(line, h.at);
+        return say_fault(rt, line, h.at);
     }
     if h.ended & alone(reading) {
-        say(b"a digit stands alone at the end\n", 32);
+        say(rt, b"a digit stands alone at the end\n", 32);
     }
 }
 
-fn main() {
+fn main(rt: HostRuntime) {
     let mut buf = [0u8; 65536];
     let mut out = [0u8; 65536];
     let mut h = Held {
@@ -94,8 +96,8 @@ fn main() {
     };
     let mut turns = u64::MAX;
     while turns > 0 && h.more {
-        h = step(&mut buf, &mut out, h);
+        h = step(&rt, &mut buf, &mut out, h);
         turns -= 1;
     }
-    last(&mut out, h);
+    last(&rt, &mut out, h);
 }

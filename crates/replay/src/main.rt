@@ -1,4 +1,6 @@
 // Replays a trace: a line a record, from standard input to standard output.
-fn main() {
-    trace_program::run(false);
+#![tactic(auto)]
+
+fn main(rt: HostRuntime) {
+    trace_program::run(&rt, false);
 }

@@ -1,3 +1,1 @@
 pub mod Refilling
-pub mod Calling
-pub mod Lending

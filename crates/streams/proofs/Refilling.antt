@@ -1,11 +1,10 @@
--- A buffer that more is read into, after what it holds.
-use Prim.Native.Nat.{ℕ, zero, suc, ◌+◌, ◌-◌, ◌<◌, ◌≤◌}
+-- A buffer that more was read into, after what it holds.
+use Prim.Native.Nat.{ℕ, zero, suc, ◌+◌, ◌-◌, ◌≤◌}
 use mathlib.Core.Bool.{false, ◌&&◌}
 use mathlib.Core.List.{List}
 use mathlib.Core.Path.{◌≡◌, refl, sym, ◌∙◌}
 use native.Mathlib.Omega.{arith}
 use borrow.Author.Tests.{leb-true, le-ltb, lt-ltb}
-use borrow.Rule.Slice.PartMut.{mid_of, put_mid, take_put, same_len_mid, mid_len}
 use lib.Dec.{leb, ltb}
 use lib.ListN.{length, drop, length-drop}
 use lib.Seq.{take_at, length-take-le}
@@ -15,16 +14,6 @@ use Rattle.memory.proofs.Pieces.{length_placed}
 use Rattle.streams.specs.declared.system.Outcome.{Outcome}
 use Rattle.streams.specs.Outcome.{count_of, failed_of}
 use Rattle.streams.specs.Refill.{ReadAfter, Refilled}
-
--- what is read goes into the part of the buffer that begins after the first n octets
-pub reads_after : {n r : ℕ} (l p : List ℕ) → n < length l → length p ≡ length (mid_of n (length l - n) l) → r ≤ length p → ReadAfter n l (put_mid n (length l - n) l p) r
-reads_after {n} {r} l p h e k =
-    let m : length (mid_of n (length l - n) l) ≡ length l - n = mid_len n (length l) l (omega arith) in
-    record {
-      front = take_put n (length l - n) l p (omega arith);
-      long = same_len_mid n (length l - n) l p e;
-      room = omega (arith, e, m);
-    }
 
 kept_fits : (from to : ℕ) (l : List ℕ) → length (kept_of from to l) ≤ length l
 unfolding kept_of
@@ -38,15 +27,6 @@ kept_fits from to l =
 later : (n r : ℕ) → ltb 0 r ≡ ltb n (n + r)
 later n zero = sym (le-ltb n (n + 0) (omega arith))
 later n (suc r) = lt-ltb 0 (suc r) (omega arith) ∙ sym (lt-ltb n (n + suc r) (omega arith))
-
--- one read after another
-pub once_more : {n r s : ℕ} {l l' l'' : List ℕ} → ReadAfter n l l' r → ReadAfter n l' l'' s → ReadAfter n l l'' s
-once_more a b =
-    record {
-      front = b.front ∙ a.front;
-      long = b.long ∙ a.long;
-      room = omega (arith, a.long, b.room);
-    }
 
 -- a read that failed gave nothing
 gave_nothing : (o : Outcome) → (ltb 0 (count_of o) && failed_of o) ≡ false

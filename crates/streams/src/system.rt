@@ -1,14 +1,16 @@
 // What became of a call of the system's that moves octets, and what is said where it failed.
-ghost use Rattle.std.specs.Prelude.{◌≡◌, ◌≤◌, length};
+ghost use Rattle.std.specs.Prelude.{◌≡◌, ◌≤◌, length, MatchResult};
 ghost use Rattle.streams.specs.Outcome.{count_of, failed_of};
 
-use crate::nap::doze;
-use memory::stretch::stretch;
+use crate::{Host, held};
 use memory::{end_of, write_octets};
-use text::decimal::write_decimal;
+use std::io;
+use std::io::{Error, ErrorKind, Write};
+use std::thread::sleep;
+use std::time::Duration;
 
 // Again: nothing was moved, and the same call may do better.
-#[derive(Drop)]
+#[derive(Clone, Copy)]
 pub(crate) enum Outcome {
     Count(usize),
     Again,
@@ -43,47 +45,57 @@ pub(crate) fn is_open(o: Outcome) -> bool {
     }
 }
 
-fn magnitude(error: i32) -> u64 {
-    if error < 0 {
-        return 0;
-    }
-    error as u64
+// The system's words for an error end with its number in brackets, and here they go without it.
+fn write_words(line: &mut [u8], what: &str, error: Error) -> usize {
+    let number = error.raw_os_error().unwrap_or(0);
+    let size = line.len();
+    let mut rest = &mut *line;
+    let _ = write!(rest, "{what} ({number}): {error}");
+    size.saturating_sub(rest.len())
 }
 
-fn write_failure(line: &mut [u8], what: &[u8], error: i32) -> usize {
-    let named = end_of(write_octets(line, 0, what));
-    let begun = end_of(write_octets(line, named, b" ("));
-    let numbered = end_of(write_decimal(line, begun, magnitude(error)));
-    end_of(write_octets(line, numbered, b")"))
+fn write_failure(line: &mut [u8], what: &str, error: Error) -> usize {
+    let n = write_words(line, what, error);
+    let words = held(line, 0, n);
+    let end = match words.iter().rposition(|b| *b == b'(') {
+        Some(i) => i.saturating_sub(1),
+        None => n,
+    };
+    end_of(write_octets(line, end, b"\n"))
 }
 
 // Says what failed, with the system's number for it and the system's words.
-pub(crate) fn complain(what: &[u8]) {
-    let mut line = [0u8; 64];
-    let n = write_failure(&mut line, what, os::errno());
-    os::fail(stretch(&line, 0, n));
+pub(crate) fn complain(rt: &impl Host, what: &str, error: Error) {
+    let mut line = [0u8; 320];
+    let n = write_failure(&mut line, what, error);
+    rt.tell(held(&line, 0, n));
 }
 
-// Whether a call that failed is to be made again: at once where a signal broke in on it, and after a while where it
-// could not do anything yet.
-fn passes(error: i32) -> bool {
-    if error == libc::EAGAIN {
-        doze();
-        return true;
+// Whether a call that failed is to be made again: at once where a signal broke in on it, and after a millisecond where
+// it could not do anything yet. There is no way to be woken by what it waits for.
+fn passes(rt: &impl Host, kind: ErrorKind) -> bool {
+    match kind {
+        ErrorKind::WouldBlock => {
+            sleep(rt, Duration::from_millis(1));
+            true
+        }
+        ErrorKind::Interrupted => true,
+        _ => false,
     }
-    error == libc::EINTR
 }
 
-// What the answer of a call says that was to move the octets of a part.
-pub(crate) fn outcome_of(answer: isize, part: &[u8], what: &[u8]) -> Outcome
-    ensures { count_of result ≤ length part.now }
+// What the answer of a call says that was to move octets.
+pub(crate) fn outcome_of(rt: &impl Host, answer: io::Result<usize>, what: &str) -> Outcome
+    ensures { MatchResult answer (λ n. count_of result ≡ n) (λ _. count_of result ≡ 0) }
 {
-    if answer >= 0 {
-        return Outcome::Count(io::count(answer, part));
+    match answer {
+        Ok(n) => Outcome::Count(n),
+        Err(e) => {
+            if passes(rt, e.kind()) {
+                return Outcome::Again;
+            }
+            complain(rt, what, e);
+            Outcome::Failed
+        }
     }
-    if passes(os::errno()) {
-        return Outcome::Again;
-    }
-    complain(what);
-    Outcome::Failed
 }

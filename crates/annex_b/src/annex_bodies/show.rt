@@ -21,7 +21,7 @@ pub(crate) fn reads_body(page: &mut [u8; 4096], name: &[u8], body: &[u8], expect
     let n = end_of(write_octets(&mut m, l, body));
     let mut line = [0u8; 256];
     let e = end_of(write_line(&mut line, 0, 0, part(&m, Place::At(0, n))));
-    let found = part(&line, Place::At(15, std::num::wrapping_sub_usize(e, 18)));
+    let found = part(&line, Place::At(15, e.wrapping_sub(18)));
     case(page, name, found, check::same(found, expected));
 }
 

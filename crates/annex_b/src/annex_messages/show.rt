@@ -11,7 +11,7 @@ use writer::write_message;
 pub(crate) fn reads(page: &mut [u8; 4096], name: &[u8], m: &[u8], expected: &[u8]) {
     let mut line = [0u8; 256];
     let n = end_of(write_line(&mut line, 0, 0, m));
-    let found = part(&line, Place::At(2, std::num::wrapping_sub_usize(n, 3)));
+    let found = part(&line, Place::At(2, n.wrapping_sub(3)));
     case(page, name, found, check::same(found, expected));
 }
 
