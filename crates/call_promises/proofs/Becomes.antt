@@ -1,8 +1,8 @@
 -- Every field of the next record is what the sentences say, and nothing else.
-use Prim.Native.Nat.{ℕ, ◌+◌, ◌-◌, ◌<◌, ◌≤◌}
+use Prim.Native.Nat.{ℕ, ◌+◌, ◌-◌}
 use mathlib.Core.List.{List, [], ◌∷◌}
-use mathlib.Core.Bool.{Bool, true, false, cond, ◌&&◌, not}
-use mathlib.Core.Logic.{◌⊎◌, inl, inr, ⊎_elim}
+use mathlib.Core.Bool.{Bool, true, false, cond, not}
+use mathlib.Core.Logic.{inl, inr}
 use mathlib.Core.Path.{◌≡◌, refl, sym, ◌∙◌, ap, subst}
 use native.Mathlib.Omega.{arith}
 use borrow.Author.Tests.{leb-true, leb-false, le-leb, lt-leb}
@@ -14,22 +14,20 @@ use Rattle.services.specs.declared.Answers.{Answers}
 use Rattle.services.specs.declared.Given.{Given}
 use Rattle.services.specs.declared.Request.{Request}
 use Rattle.services.specs.declared.Requests.{Requests}
-use Rattle.services.specs.declared.Said.{Said}
 use Rattle.services.specs.declared.Standing.{Standing}
 use Rattle.services.specs.Standing.{in_force_of, awaits_of}
 use Rattle.user_element.specs.declared.Note.{Note}
 use Rattle.user_element.specs.declared.Seen.{Seen}
-use Rattle.user_element.specs.Element.{seen_of, whole_of}
+use Rattle.user_element.specs.Element.{seen_of}
 use Rattle.answer.specs.declared.Answer.{Answer}
 use Rattle.answer.specs.Answer.{taken_of}
 use Rattle.message_types.specs.declared.Kind.{Kind}
 use Rattle.phases.specs.declared.Phase.{Phase}
 use Rattle.phases.specs.Phase.{requested_of}
-use Rattle.sent.specs.declared.Sent.{Sent}
 use Rattle.sent.specs.declared.side.Side.{Side}
 use Rattle.event.specs.declared.Event.{Event}
 use Rattle.facility_rules.specs.declared.What.{What}
-use Rattle.facility_rules.specs.Asking.{nobody_asks, facility_asking_of, facility_three_of, facility_meters_of}
+use Rattle.facility_rules.specs.Asking.{nobody_asks}
 use Rattle.facility_rules.specs.Messages.{not_granted_of}
 use Rattle.answering_rules.specs.declared.Fate.{Fate}
 use Rattle.answering_rules.specs.declared.Fates.{Fates}
@@ -40,36 +38,35 @@ use Rattle.flow_meter.specs.declared.Meter.{Meter}
 use Rattle.flow_meter.specs.declared.call_meters.Meters.{Meters}
 use Rattle.flow_meter.specs.declared.passage.Passage.{Passage}
 use Rattle.flow_meter.specs.Meter.{empty_of, granted_of, ticked_of, refilled_of}
-use Rattle.flow_meter.specs.Passage.{counted_of, paid_of, marked_of, after_of}
+use Rattle.flow_meter.specs.Passage.{counted_of, paid_of, marked_of}
 use Rattle.flow_meter.specs.CallMeters.{empty_meters, meter_of, with_meter_of, spent_of, grants_of, ticked_meters_of, refills_of}
 use Rattle.setup_rules.specs.Requests.{asked_standing_of, implied_of, first_standing_of, standings_of, lacks_of, setup_phase_of}
 use Rattle.information_rules.specs.Serving.{serves_three_of}
 use Rattle.call.specs.declared.Call.{Call}
 use Rattle.call.specs.declared.reply.Reply.{Reply}
 use Rattle.call.specs.Answering.{answered_call_of, goes_on_of, clears_of, answering_of, answered_of, alerting_of, connect_of}
-use Rattle.call.specs.Disconnect.{one_after_of, closed_call_of, passed_on_of, disconnect_of, ends_of, release_complete_of}
+use Rattle.call.specs.Disconnect.{closed_call_of, passed_on_of, disconnect_of, ends_of, release_complete_of}
 use Rattle.call.specs.Facility.{facility_verdict_of, facility_call_of, passes_facility_of, facility_of}
 use Rattle.call.specs.Information.{meters_of, information_passage_of, carried_of, with_element_of, information_of}
 use Rattle.call.specs.Reply.{refused_of, reply_of}
 use Rattle.call.specs.Setup.{proceeds_of, setup_of}
-use Rattle.call.specs.Sound.{fresh_call, sound_of, in_phase_of}
+use Rattle.call.specs.Sound.{fresh_call, in_phase_of}
 use Rattle.call.specs.Step.{not_an_event_of, step_of}
 use Rattle.call.specs.Tick.{runs_of, passes_tick_of, tick_of}
-use Rattle.logic.proofs.Decide.{never, by_cond, Decides, Denies, both, always, over}
+use Rattle.logic.proofs.Decide.{never, by_cond, Decides, both, always, over}
 use Rattle.logic.proofs.Decide.{denied as denies}
-use Rattle.call_promises.specs.Numbers.{Core, Allowed, Has, ServesThree, meter_from, other, tells}
-use Rattle.call_promises.specs.Notes.{LacksRequired, Open}
+use Rattle.call_promises.specs.Numbers.{Core, Allowed, ServesThree, meter_from, other, tells}
 use Rattle.call_promises.specs.Handling.{Explicit, Implied}
-use Rattle.call_promises.specs.Sends.{Hears, Counts, FailsAt, Intact, CountPays, CreditPays, FirstDropped, Agreed, Accepting}
+use Rattle.call_promises.specs.Sends.{Hears, FailsAt, Intact, CountPays, CreditPays, FirstDropped, Agreed}
 use Rattle.call_promises.specs.Refusals.{altered}
-use Rattle.call_promises.specs.Becomes.{turned_to, with_meter, asking_from, topped, topped_both, Stands, unasked, preferred, required, implicit, lacking, Opens, ended, requested, new_record, Earns, earns, earns_not, Answered, on, clears, Last, accepted, as_before, TickAdds, adds, tops, Becomes, setup, alerting, connect, counts, pays, marks, drops, asks, accepts, rejects, refuses, disconnect, release, ticks, rests, NextRecord, acts, bars, IsTheRecord, BecomesExactly, Leads, stays, goes, History}
+use Rattle.call_promises.specs.Becomes.{turned_to, with_meter, asking_from, topped_both, Stands, unasked, preferred, required, implicit, lacking, Opens, ended, requested, new_record, Earns, earns, earns_not, Answered, on, clears, Last, accepted, as_before, TickAdds, adds, tops, Becomes, setup, alerting, connect, counts, pays, marks, drops, asks, accepts, rejects, refuses, disconnect, release, ticks, rests, NextRecord, acts, bars, IsTheRecord, BecomesExactly, Leads, stays, goes, History}
 use Rattle.call_promises.proofs.Conditions.{has, serves_three}
 use Rattle.call_promises.proofs.Notes.{lacks}
 use Rattle.call_promises.proofs.Phases.{fresh, connectable, talking, active, up, live}
 use Rattle.call_promises.proofs.Phases.{requested as is-requested}
 use Rattle.call_promises.proofs.Ranges.{unsound, reference_range, rights_range}
 use Rattle.call_promises.proofs.Seen.{Sight, absent, malformed, too_long, whole, sight}
-use Rattle.call_promises.proofs.Parts.{Let, through, stopped, let_through, Tests, tests, View, idle, asked, alerting_one, alerting_two, alerting_three, connect-one, connect-two, connect-three, settles_is, settles_one, failure, Outcome, sound, fails, outcome, Met, counted, paid, marked, spent, unserved, met, paid_once, left_once, Verdict, agreed, ungranted, neither, verdict, awaits, Third, three_accepted, three_kept, third_of}
+use Rattle.call_promises.proofs.Parts.{Let, through, stopped, let_through, Tests, tests, View, alerting_one, alerting_two, alerting_three, connect_one, connect_two, connect_three, settles_is, settles_one, failure, Outcome, sound, fails, outcome, Met, counted, paid, marked, spent, unserved, met, paid_once, left_once, Verdict, agreed, ungranted, neither, verdict, awaits, Third, three_accepted, three_kept, third_of}
 use Rattle.call_promises.specs.Sound.{Offered, run_of}
 
 -- ---- a record and the sentence that makes it
@@ -103,30 +100,30 @@ module _ (r : Rights) (k : Service) where
   asked_is Request.Required = by_cond (Stands r k Request.Required ⊥) (has_of r k) (λ h. required refl ((has r k).so h)) (λ n. lacking (inl (inr refl)) (λ y. never ((has r k).back y) n))
 
   module _ {I : Type 0} (im : Bool) (d : Decides im I) where
-    first-is : (q : Request) → (im ≡ true → q ≡ Request.Unasked) → Stands r k q I (cond im (cond (has_of r k) Standing.InForce Standing.Closed) (asked_standing_of q (has_of r k)))
-    first-is Request.Unasked f =
+    first_is : (q : Request) → (im ≡ true → q ≡ Request.Unasked) → Stands r k q I (cond im (cond (has_of r k) Standing.InForce Standing.Closed) (asked_standing_of q (has_of r k)))
+    first_is Request.Unasked f =
         by_cond (Stands r k Request.Unasked I) im
         (λ i. by_cond (Stands r k Request.Unasked I) (has_of r k) (λ h. implicit (d.so i) ((has r k).so h)) (λ n. lacking (inr (d.so i)) (λ y. never ((has r k).back y) n)))
         (λ i. unasked refl (λ x. never (d.back x) i))
-    first-is Request.Preferred f =
+    first_is Request.Preferred f =
         by_cond (Stands r k Request.Preferred I) im (λ i. absurd (let z : ◌≡◌ {A = ℕ} 0 1 = cc (f i) in omega arith))
         (λ i. by_cond (Stands r k Request.Preferred I) (has_of r k) (λ h. preferred refl ((has r k).so h)) (λ n. lacking (inl (inl refl)) (λ y. never ((has r k).back y) n)))
-    first-is Request.Required f =
+    first_is Request.Required f =
         by_cond (Stands r k Request.Required I) im (λ i. absurd (let z : ◌≡◌ {A = ℕ} 0 1 = cc (f i) in omega arith))
         (λ i. by_cond (Stands r k Request.Required I) (has_of r k) (λ h. required refl ((has r k).so h)) (λ n. lacking (inl (inr refl)) (λ y. never ((has r k).back y) n)))
 
-    not-implicit : (q : Request) → (im ≡ true → q ≡ Request.Unasked) → Explicit q → (b : Bool) → im ≡ b → im ≡ false
-    not-implicit q f (inl x) true e = absurd (let z : ◌≡◌ {A = ℕ} 0 1 = cc (f e, x) in omega arith)
-    not-implicit q f (inr x) true e = absurd (let z : ◌≡◌ {A = ℕ} 0 1 = cc (f e, x) in omega arith)
-    not-implicit q f x false e = e
+    not_implicit : (q : Request) → (im ≡ true → q ≡ Request.Unasked) → Explicit q → (b : Bool) → im ≡ b → im ≡ false
+    not_implicit q f (inl x) true e = absurd (let z : ◌≡◌ {A = ℕ} 0 1 = cc (f e, x) in omega arith)
+    not_implicit q f (inr x) true e = absurd (let z : ◌≡◌ {A = ℕ} 0 1 = cc (f e, x) in omega arith)
+    not_implicit q f x false e = e
 
     stands_one : (q : Request) {t : Standing} → (im ≡ true → q ≡ Request.Unasked) → Stands r k q I t → cond im (cond (has_of r k) Standing.InForce Standing.Closed) (asked_standing_of q (has_of r k)) ≡ t
     stands_one q f (unasked e n) = rw ((denies _ d).back n, e) refl
-    stands_one q f (preferred e h) = rw (not-implicit q f (inl e) im refl, (has r k).back h) (rw e refl)
-    stands_one q f (required e h) = rw (not-implicit q f (inr e) im refl, (has r k).back h) (rw e refl)
+    stands_one q f (preferred e h) = rw (not_implicit q f (inl e) im refl, (has r k).back h) (rw e refl)
+    stands_one q f (required e h) = rw (not_implicit q f (inr e) im refl, (has r k).back h) (rw e refl)
     stands_one q f (implicit i h) = rw (d.back i, (has r k).back h) refl
-    stands_one q f (lacking (inl (inl e)) n) = rw (not-implicit q f (inl e) im refl, (denies _ (has r k)).back n) (rw e refl)
-    stands_one q f (lacking (inl (inr e)) n) = rw (not-implicit q f (inr e) im refl, (denies _ (has r k)).back n) (rw e refl)
+    stands_one q f (lacking (inl (inl e)) n) = rw (not_implicit q f (inl e) im refl, (denies _ (has r k)).back n) (rw e refl)
+    stands_one q f (lacking (inl (inr e)) n) = rw (not_implicit q f (inr e) im refl, (denies _ (has r k)).back n) (rw e refl)
     stands_one q f (lacking (inr i) n) = rw (d.back i, (denies _ (has r k)).back n) refl
 
   asked_one : (q : Request) {t : Standing} → Stands r k q ⊥ t → asked_standing_of q (has_of r k) ≡ t
@@ -165,12 +162,12 @@ module _ (c : Call) (n : ℕ) (r : Rights) (q : Requests) (l : List ℕ) where
   opens_one (ended x) = rw ((lacks r q).back x) refl
   opens_one (requested x) = rw ((denies _ (lacks r q)).back x) refl
 
-  abbrev first-standing : Standing
-  first-standing = cond im (cond (has_of r Service.One) Standing.InForce Standing.Closed) (asked_standing_of q.one (has_of r Service.One))
+  abbrev first_standing : Standing
+  first_standing = cond im (cond (has_of r Service.One) Standing.InForce Standing.Closed) (asked_standing_of q.one (has_of r Service.One))
 
   abbrev opened : Call
   opened =
-      new_record n r (setup_phase_of (lacks_of r q)) first-standing (asked_standing_of q.two (has_of r Service.Two))
+      new_record n r (setup_phase_of (lacks_of r q)) first_standing (asked_standing_of q.two (has_of r Service.Two))
       (asked_standing_of q.three (has_of r Service.Three))
 
   setup_one : (d : Call) → Becomes c l (Event.Setup n r q) d → opened ≡ d
@@ -181,7 +178,7 @@ module _ (c : Call) (n : ℕ) (r : Rights) (q : Requests) (l : List ℕ) where
   unfolding proceeds_of standings_of first_standing_of nobody_asks empty_meters empty_of
   setup_left =
       left_by opened refl
-      (setup opens_is (first-is r Service.One im is_implied q.one (implied_unasked q.one seen)) (asked_is r Service.Two q.two) (asked_is r Service.Three q.three))
+      (setup opens_is (first_is r Service.One im is_implied q.one (implied_unasked q.one seen)) (asked_is r Service.Two q.two) (asked_is r Service.Three q.three))
       setup_one
 
 -- ---- ALERTING and CONNECT
@@ -200,12 +197,12 @@ module _ (c : Call) (e : Event) (kind : Kind) (next : Phase) (f : Fates) where
       earned (three_accepted a) = earns a
       earned (three_kept n h) = rw h (earns_not n)
 
-      earned-one : {x : Fate} {m : Meters} → Third c e x → Earns c e m → in_force_after_of c.meters c.rights.burst x ≡ m
+      earned_one : {x : Fate} {m : Meters} → Third c e x → Earns c e m → in_force_after_of c.meters c.rights.burst x ≡ m
       unfolding grants_of granted_of
-      earned-one (three_accepted a) (earns b) = refl
-      earned-one (three_accepted a) (earns_not n) = absurd (n a)
-      earned-one (three_kept n h) (earns b) = absurd (n b)
-      earned-one (three_kept n h) (earns_not m) = h
+      earned_one (three_accepted a) (earns b) = refl
+      earned_one (three_accepted a) (earns_not n) = absurd (n a)
+      earned_one (three_kept n h) (earns b) = absurd (n b)
+      earned_one (three_kept n h) (earns_not m) = h
 
       abbrev gone_on : Call
       gone_on =
@@ -215,19 +212,19 @@ module _ (c : Call) (e : Event) (kind : Kind) (next : Phase) (f : Fates) where
 
       on_one : ((k : Service) (g : Given) → FailsAt c e k g → ⊥) → (d : Call) → Answered c e next d → gone_on ≡ d
       on_one n d (on x s t u m) =
-          λ j. altered c next (record { one = (settles_one c e Service.One one s).0 j; two = (settles_one c e Service.Two two t).0 j; three = (settles_one c e Service.Three three u).0 j }) c.asking (earned-one (third_of c e three) m j)
+          λ j. altered c next (record { one = (settles_one c e Service.One one s).0 j; two = (settles_one c e Service.Two two t).0 j; three = (settles_one c e Service.Three three u).0 j }) c.asking (earned_one (third_of c e three) m j)
       on_one n d (clears x) = absurd (n _ _ x)
 
-      clears-one : (k : Service) (g : Given) → FailsAt c e k g → (d : Call) → Answered c e next d → turned_to c Phase.Clearing ≡ d
-      clears-one k g x d (on n s t u m) = absurd (n k g x)
-      clears-one k g x d (clears y) = refl
+      clears_one : (k : Service) (g : Given) → FailsAt c e k g → (d : Call) → Answered c e next d → turned_to c Phase.Clearing ≡ d
+      clears_one k g x d (on n s t u m) = absurd (n k g x)
+      clears_one k g x d (clears y) = refl
 
-      answering-left : (seen : Seen) (x : Bool) → Outcome c e x → IsTheRecord (Answered c e next) (answering_of c kind next f seen x).call
+      answering_left : (look : Seen) (x : Bool) → Outcome c e x → IsTheRecord (Answered c e next) (answering_of c kind next f look x).call
       unfolding goes_on_of clears_of answered_call_of settles_of in_phase_of
-      answering-left seen false (sound n) =
+      answering_left look false (sound n) =
           left_by gone_on refl
           (on n (settles_is c e Service.One one) (settles_is c e Service.Two two) (settles_is c e Service.Three three) (earned (third_of c e three))) (on_one n)
-      answering-left seen true (fails k g x) = left_by (turned_to c Phase.Clearing) refl (clears x) (clears-one k g x)
+      answering_left look true (fails k g x) = left_by (turned_to c Phase.Clearing) refl (clears x) (clears_one k g x)
 
 wrapped : {P Q : Call → Type 0} {c : Call} → ((d : Call) → P d → Q d) → ((d : Call) → Q d → P d) → IsTheRecord P c → IsTheRecord Q c
 wrapped f g t d = ((λ h. f d ((t d).0 h)), (λ q. (t d).1 (g d q)))
@@ -247,7 +244,7 @@ module _ (c : Call) (a : Answers) (l : List ℕ) where
       let y = alerting_two c.phase c.standings a in
       let z = alerting_three c.phase c.standings a in
       wrapped (λ d. alerting) rang
-      (answering-left c e Kind.Alerting Phase.Alerting _ x y z _ _
+      (answering_left c e Kind.Alerting Phase.Alerting _ x y z _ _
       (outcome c e (failure c e Service.One x) (failure c e Service.Two y) (failure c e Service.Three z)))
 
   connect_left : IsTheRecord (Becomes c l (Event.Connect a)) (answered_of c Kind.Connect Phase.Active (connect_fates_of (not (requested_of c.phase)) c.standings a) l).call
@@ -255,11 +252,11 @@ module _ (c : Call) (a : Answers) (l : List ℕ) where
   connect_left =
       let e = Event.Connect a in
       let r = is-requested c.phase in
-      let x = connect-one c.phase c.standings a _ r in
-      let y = connect-two c.phase c.standings a _ r in
-      let z = connect-three c.phase c.standings a _ r in
+      let x = connect_one c.phase c.standings a _ r in
+      let y = connect_two c.phase c.standings a _ r in
+      let z = connect_three c.phase c.standings a _ r in
       wrapped (λ d. connect) connected
-      (answering-left c e Kind.Connect Phase.Active _ x y z _ _
+      (answering_left c e Kind.Connect Phase.Active _ x y z _ _
       (outcome c e (failure c e Service.One x) (failure c e Service.Two y) (failure c e Service.Three z)))
 
 -- ---- USER INFORMATION
@@ -384,15 +381,15 @@ module _ (c : Call) where
   last_is : (side : Side) (a : Answers) → Last c side a.one (closing_standing_of one (heard_answers_of side a).one)
   unfolding silent_answers
   last_is Side.Calling a = as_before (λ x. let z : ◌≡◌ {A = ℕ} 0 1 = cc x.called in omega arith)
-  last_is Side.Called a = by-given a.one
+  last_is Side.Called a = by_given a.one
     where
-      by-given : (g : Given) → Last c Side.Called g (closing_standing_of one g)
-      by-given Given.Silent = as_before (λ x. let z : ◌≡◌ {A = ℕ} 0 1 = cc x.given in omega arith)
-      by-given Given.Accepted =
+      by_given : (g : Given) → Last c Side.Called g (closing_standing_of one g)
+      by_given Given.Silent = as_before (λ x. let z : ◌≡◌ {A = ℕ} 0 1 = cc x.given in omega arith)
+      by_given Given.Accepted =
           by_cond (Last c Side.Called Given.Accepted) (awaits_of one)
           (λ h. accepted (record { called = refl; first = refl; asked = (awaits one).so h; given = refl }))
           (λ h. as_before (λ x. never ((awaits one).back x.asked) h))
-      by-given Given.Rejected = as_before (λ x. let z : ◌≡◌ {A = ℕ} 0 1 = cc x.given in omega arith)
+      by_given Given.Rejected = as_before (λ x. let z : ◌≡◌ {A = ℕ} 0 1 = cc x.given in omega arith)
 
   one_last : (side : Side) (g : Given) {s t : Standing} → Last c side g s → Last c side g t → s ≡ t
   one_last side g (accepted x) (accepted y) = refl
@@ -407,9 +404,9 @@ module _ (c : Call) (l : List ℕ) (side : Side) (cause : ℕ) (a : Answers) whe
   disconnect_one : {s : Standing} → Last c side a.one s → (d : Call) → Becomes c l (Event.Disconnect side cause a) d → closing s ≡ d
   disconnect_one x d (disconnect y) = ap closing (one_last c side a.one x y)
 
-  disconnect_left : (seen : Seen) → IsTheRecord (Becomes c l (Event.Disconnect side cause a)) (passed_on_of c side cause (heard_answers_of side a) seen).call
+  disconnect_left : (look : Seen) → IsTheRecord (Becomes c l (Event.Disconnect side cause a)) (passed_on_of c side cause (heard_answers_of side a) look).call
   unfolding passed_on_of reply_of closed_call_of
-  disconnect_left seen = let x = last_is c side a in left_by (closing _) refl (disconnect x) (disconnect_one x)
+  disconnect_left look = let x = last_is c side a in left_by (closing _) refl (disconnect x) (disconnect_one x)
 
 module _ (c : Call) (l : List ℕ) (side : Side) where
   release_one : (d : Call) → Becomes c l (Event.ReleaseComplete side) d → turned_to c Phase.Ended ≡ d

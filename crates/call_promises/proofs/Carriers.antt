@@ -9,10 +9,8 @@ use Rattle.rights.specs.declared.Service.{Service}
 use Rattle.services.specs.declared.Answers.{Answers}
 use Rattle.services.specs.declared.Requests.{Requests}
 use Rattle.services.specs.Standing.{in_force_of}
-use Rattle.user_element.specs.declared.Note.{Note}
 use Rattle.user_element.specs.declared.Seen.{Seen}
-use Rattle.user_element.specs.Element.{seen_of, goes_out_of}
-use Rattle.answer.specs.declared.Answer.{Answer}
+use Rattle.user_element.specs.Element.{seen_of}
 use Rattle.message_types.specs.declared.Kind.{Kind}
 use Rattle.phases.specs.declared.Phase.{Phase}
 use Rattle.phases.specs.Phase.{requested_of}
@@ -37,7 +35,6 @@ use Rattle.call.specs.Facility.{facility_verdict_of, passes_facility_of, facilit
 use Rattle.call.specs.Information.{information_passage_of, carried_of, with_element_of, information_of}
 use Rattle.call.specs.Reply.{refused_of, reply_of}
 use Rattle.call.specs.Setup.{proceeds_of, setup_of}
-use Rattle.call.specs.Sound.{sound_of}
 use Rattle.call.specs.Step.{not_an_event_of, step_of}
 use Rattle.call.specs.Tick.{passes_tick_of, tick_of}
 use Rattle.logic.proofs.Decide.{never, both, Denies, always, over}

@@ -20,8 +20,8 @@ use Rattle.call_promises.specs.Notes.{AlertingFails, ConnectFails}
 use Rattle.call_promises.specs.Refusals.{sent_to}
 use Rattle.call_promises.specs.Services.{standing_for, alerting as at-alerting, connect as at-connect}
 use Rattle.call_promises.specs.Sends.{Hears, Due, ringing, third, first, second, FailsAt, on, clears, clears_too, Sends, released, proceeding, setup, alerting, connect, passes, warns, facility, refuses, disconnect, release, ready, SendsExactly}
-use Rattle.call_promises.specs.Causes.{RequiredFails, CauseTold, refused, proceeds, goes_on, fails, fails_too, alerts, connects, informs, not_ready_lem, about_three_lem, own, bare, ready_again, Bears, bears, Causes, OneCause, OwnWord, says, TwentyNine}
-use Rattle.call_promises.proofs.Parts.{rides, not_three, nor_three, silence_no, alerting_one, alerting_two, alerting_three, connect-one, connect-two, connect-three, turned_is}
+use Rattle.call_promises.specs.Causes.{RequiredFails, CauseTold, refused, proceeds, goes_on, fails, fails_too, alerts, connects, informs, not_ready, about_three, own, bare, ready_again, Bears, bears, Causes, OneCause, OwnWord, says, TwentyNine}
+use Rattle.call_promises.proofs.Parts.{rides, not_three, nor_three, silence_no, alerting_one, alerting_two, alerting_three, connect_one, connect_two, connect_three, turned_is}
 use Rattle.call_promises.proofs.Notes.{disconnect_comes}
 use Rattle.call_promises.proofs.Phases.{requested}
 use Rattle.call_promises.proofs.Seen.{sight}
@@ -74,9 +74,9 @@ module _ (c : Call) (l : List ℕ) where
   told e side m (connect (clears x s t u)) = fails (at-connect (connect_so c _ _ _ x))
   told e side m (connect (clears_too x)) = fails_too (at-connect (connect_so c _ _ _ x))
   told e side m (passes x y) = informs x
-  told e side m (warns x y) = not_ready_lem x
-  told e side m (facility x y z) = about_three_lem
-  told e side m (refuses x y z) = about_three_lem
+  told e side m (warns x y) = not_ready x
+  told e side m (facility x y z) = about_three
+  told e side m (refuses x y z) = about_three
   told e side m (disconnect x s t u b) = own x
   told e side m (release x) = bare x
   told e side m (ready x y) = ready_again
@@ -105,7 +105,7 @@ module _ (f : Core) (s : SendsExactly f) (c : Call) (l : List ℕ) where
       let p = c.phase in
       let q = c.standings in
       let r = requested p in
-      (bears_sent ((s c e l Side.Calling _).1 (h, connect (clears x (turned_is c e Service.One (connect-one p q a _ r)) (turned_is c e Service.Two (connect-two p q a _ r)) (turned_is c e Service.Three (connect-three p q a _ r))))) refl refl, bears_sent ((s c e l Side.Called _).1 (h, connect (clears_too x))) refl refl)
+      (bears_sent ((s c e l Side.Calling _).1 (h, connect (clears x (turned_is c e Service.One (connect_one p q a _ r)) (turned_is c e Service.Two (connect_two p q a _ r)) (turned_is c e Service.Three (connect_three p q a _ r))))) refl refl, bears_sent ((s c e l Side.Called _).1 (h, connect (clears_too x))) refl refl)
 
   both : (e : Event) → Hears c e → RequiredFails c e → Cleared e
   both e h (at-alerting x) = alerting_both _ h (fails_back c e (at-alerting x))
@@ -142,8 +142,8 @@ one_cause_lem c e side kind x y (fails_too p) (own q) = absurd (not_own p)
 one_cause_lem c e side kind x y (alerts p) (alerts q) = refl
 one_cause_lem c e side kind x y (connects p) (connects q) = refl
 one_cause_lem c e side kind x y (informs p) (informs q) = refl
-one_cause_lem c e side kind x y (not_ready_lem p) (not_ready_lem q) = refl
-one_cause_lem c e side kind x y about_three_lem about_three_lem = refl
+one_cause_lem c e side kind x y (not_ready p) (not_ready q) = refl
+one_cause_lem c e side kind x y about_three about_three = refl
 one_cause_lem c e side kind x y (own p) (fails q) = absurd (not_own q)
 one_cause_lem c e side kind x y (own p) (fails_too q) = absurd (not_own q)
 one_cause_lem c e side kind x y (own p) (own q) = refl
@@ -161,8 +161,8 @@ only_own (fails_too x) h = absurd (let z : ◌≡◌ {A = ℕ} 31 29 = cc h in o
 only_own (alerts x) h = absurd (let z : ◌≡◌ {A = ℕ} 0 1 = cc h in omega arith)
 only_own (connects x) h = absurd (let z : ◌≡◌ {A = ℕ} 0 1 = cc h in omega arith)
 only_own (informs x) h = absurd (let z : ◌≡◌ {A = ℕ} 0 1 = cc h in omega arith)
-only_own (not_ready_lem x) h = absurd (let z : ◌≡◌ {A = ℕ} 43 29 = cc h in omega arith)
-only_own about_three_lem h = absurd (let z : ◌≡◌ {A = ℕ} 0 1 = cc h in omega arith)
+only_own (not_ready x) h = absurd (let z : ◌≡◌ {A = ℕ} 43 29 = cc h in omega arith)
+only_own about_three h = absurd (let z : ◌≡◌ {A = ℕ} 0 1 = cc h in omega arith)
 only_own (own {cause = n} e) h = (refl, let z : n ≡ 29 = cc h in rw z (says e))
 only_own (bare x) h = absurd (let z : ◌≡◌ {A = ℕ} 0 1 = cc h in omega arith)
 only_own ready_again h = absurd (let z : ◌≡◌ {A = ℕ} 43 29 = cc h in omega arith)

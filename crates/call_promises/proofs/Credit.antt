@@ -464,7 +464,9 @@ step_agrees a c e l g w = rw g.same (step_told c g.requests g.due (sound_by c _ 
 -- runs
 run_agrees : (a : Account) (c : Call) (os : List Offered) → Agrees a c → (Live c.phase → InRangeCall c) → Agrees (account_of a os) (run_of step_of c os)
 run_agrees a c [] g w = g
-run_agrees a c (o ∷ os) g w = run_agrees _ _ os (step_agrees a c o.event o.element g w) (step_in c o.event o.element w)
+run_agrees a c (o ∷ os) g w =
+    run_agrees (books a o.event o.element) (step_of c o.event o.element).call os (step_agrees a c o.event o.element g w)
+    (step_in c o.event o.element w)
 
 after_run : (os : List Offered) → Agrees (account_of unopened os) (run_of step_of fresh_call os)
 unfolding fresh_call no_rights no_services empty_meters empty_of nobody_asks

@@ -363,7 +363,7 @@ asked_in k os w =
 run_has : (k : Service) (c : Call) (os : List Offered) → (Known c k → Has c.rights k) → Known (run_of step_of c os) k → Has (run_of step_of c os).rights k
 run_has k c [] h = h
 run_has k c (o ∷ os) h =
-    run_has k _ os
+    run_has k (step_of c o.event o.element).call os
     (λ w. ⊎_elim (λ y. rw y.1 (h y.0)) (λ y. y.2) ((traces c k o.event o.element).asked w))
 
 pub granted : Granted step_of

@@ -220,20 +220,20 @@ module _ (c : Call) (side : Side) where
   passage_served h = passage_by _ _ (serves_two c side) (serves_three c) (rw meter_from_lem at h)
 
   module _ (more : Bool) (l : List ℕ) where
-    carried-passes : Sight l c.rights.limit Seen.Whole → Passes c (Event.Information side more) l (carried_of c side more (information_passage_of c side))
+    carried_passes : Sight l c.rights.limit Seen.Whole → Passes c (Event.Information side more) l (carried_of c side more (information_passage_of c side))
     unfolding carried_of only_if_of informs_of congestion_of
-    carried-passes (whole z w k) =
+    carried_passes (whole z w k) =
         side_passes c _ l side _ _ _ _ _ _ (by_cond Plain (marks_of (information_passage_of c side)) (λ _. refl) (λ _. tt))
         (by_cond (Way _ _ l _ _ _) (passes_of (information_passage_of c side))
         (λ h. goes refl information w k (served_under (passage_served h)) ((passage_taken (information_passage_of c side)).so h, refl))
         (λ h. plain tt (λ _ n. never ((passage_taken (information_passage_of c side)).back n.0) h)))
 
-    information-passes : {s : Seen} → Sight l c.rights.limit s → Passes c (Event.Information side more) l (with_element_of c s (carried_of c side more (information_passage_of c side)))
+    information_passes : {s : Seen} → Sight l c.rights.limit s → Passes c (Event.Information side more) l (with_element_of c s (carried_of c side more (information_passage_of c side)))
     unfolding with_element_of
-    information-passes (absent z) = refused_passes c _ l _ _ (λ _ h. omega arith)
-    information-passes (malformed z w) = refused_passes c _ l _ _ (λ _ h. omega arith)
-    information-passes (too_long z w k) = refused_passes c _ l _ _ (λ _ h. omega arith)
-    information-passes (whole z w k) = carried-passes (whole z w k)
+    information_passes (absent z) = refused_passes c _ l _ _ (λ _ h. omega arith)
+    information_passes (malformed z w) = refused_passes c _ l _ _ (λ _ h. omega arith)
+    information_passes (too_long z w k) = refused_passes c _ l _ _ (λ _ h. omega arith)
+    information_passes (whole z w k) = carried_passes (whole z w k)
 
 -- any event
 passes : (c : Call) (e : Event) (l : List ℕ) → Passes c e l (step_of c e l)
@@ -244,7 +244,7 @@ passes c (Event.Alerting answers) l =
 passes c (Event.Connect answers) l =
     heard_passes c _ l _ _ _ (heard c _ _ _) (answered_passes c _ l _ _ _ refl connect (λ d p i. connected p i))
 passes c (Event.Information side more) l =
-    heard_passes c _ l _ _ _ (heard c _ _ _) (information-passes c side more l (sight l c.rights.limit))
+    heard_passes c _ l _ _ _ (heard c _ _ _) (information_passes c side more l (sight l c.rights.limit))
 passes c (Event.Facility side what) l =
     heard_passes c _ l _ _ _ (heard c _ _ _)
     (side_passes c _ l side _ _ _ _ _ _ (only_plain _ _ refl) (plain (only_plain _ _ refl) (λ o _. o.0 tt)))

@@ -564,9 +564,9 @@ module _ (c d : Call) (u : up_of c.phase ≡ true) (b : Below c d) where
       (failed_same (alerting_fates_of c.standings a) (alerting_fates_of d.standings a) (twin_decided _ _ a.one b.one).failure (twin_decided _ _ a.two b.two).failure refl) (alerted_below a e)
 
   module _ (came : Bool) (a : Answers) (k : (side : Side) → counts_of Phase.Active (in_force_of (settled_of c.standings.two (cond came Fate.Kept (decided_of c.standings.two Given.Silent)))) (late_of side c.rights.late) ≡ true → two_from side ≡ true) where
-    connected-below : Below (answered_call_of c Phase.Active (connect_fates_of came c.standings a)) (answered_call_of d Phase.Active (connect_fates_of came d.standings a))
+    connected_below : Below (answered_call_of c Phase.Active (connect_fates_of came c.standings a)) (answered_call_of d Phase.Active (connect_fates_of came d.standings a))
     unfolding answered_call_of connect_fates_of settles_of
-    connected-below =
+    connected_below =
         record {
           phase = refl;
           rights = b.rights;
@@ -579,18 +579,18 @@ module _ (c d : Call) (u : up_of c.phase ≡ true) (b : Below c d) where
               (third_poor two_from c.meters d.meters _ _ b.rights.burst _ _ _ _ _ a.three b.three b.meters side);
         }
 
-    connected-by : (l : List ℕ) → Both (answered_of c Kind.Connect Phase.Active (connect_fates_of came c.standings a) l) (answered_of d Kind.Connect Phase.Active (connect_fates_of came d.standings a) l)
+    connected_by : (l : List ℕ) → Both (answered_of c Kind.Connect Phase.Active (connect_fates_of came c.standings a) l) (answered_of d Kind.Connect Phase.Active (connect_fates_of came d.standings a) l)
     unfolding connect_fates_of
-    connected-by l =
+    connected_by l =
         answered Kind.Connect Phase.Active (connect_fates_of came c.standings a) (connect_fates_of came d.standings a) l refl
         (failed_same (connect_fates_of came c.standings a) (connect_fates_of came d.standings a) (twin_due _ _ came a.one b.one).failure (twin_due _ _ came Given.Silent b.two).failure
         (twin_decided _ _ a.three (above_third _ _ _ _ _ b.three)).failure)
-        connected-below
+        connected_below
 
   connected : (a : Answers) (l : List ℕ) → connectable_of c.phase ≡ true → Both (answered_of c Kind.Connect Phase.Active (connect_fates_of (not (requested_of c.phase)) c.standings a) l) (answered_of d Kind.Connect Phase.Active (connect_fates_of (not (requested_of d.phase)) d.standings a) l)
   connected a l h =
       let came : not (requested_of d.phase) ≡ not (requested_of c.phase) = ap (λ p. not (requested_of p)) b.phase in
-      rw came (connected-by (not (requested_of c.phase)) a (λ side x. came_counts c.phase c.standings.two _ h x) l)
+      rw came (connected_by (not (requested_of c.phase)) a (λ side x. came_counts c.phase c.standings.two _ h x) l)
 
 -- one event
 abbrev Good : Call → Type 0
@@ -677,7 +677,7 @@ module _ (r r' : Rights) (n : NoLess r r') where
       let p = step_of c (event_with r o.event) o.element in
       let q = step_of d (event_with r' o.event) o.element in
       let s = step r r' n c d o.event o.element w w' st in
-      let t = runs _ _ os (step_in c (event_with r o.event) o.element w) (step_in d (event_with r' o.event) o.element w') s.stage in
+      let t = runs p.call q.call os (step_in c (event_with r o.event) o.element w) (step_in d (event_with r' o.event) o.element w') s.stage in
       (also (kept p.dispatch.calling q.dispatch.calling o.element s.calling) (kept p.dispatch.called q.dispatch.called o.element s.called) t.0, t.1)
 
 fresh_good : Good fresh_call

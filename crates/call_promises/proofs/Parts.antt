@@ -1,15 +1,13 @@
 -- The parts of a step, each with the paper's condition for it: what lets an event through, what rides with a message,
 -- what the answers make of a service, what a message meets in its meter, what FACILITY is answered.
-use Prim.Native.Nat.{ℕ, ◌<◌, ◌≤◌}
+use Prim.Native.Nat.{ℕ, ◌≤◌}
 use mathlib.Core.List.{List}
-use mathlib.Core.Bool.{Bool, true, false, cond, ◌&&◌, ◌||◌, not}
-use mathlib.Core.Logic.{◌⊎◌, inl, inr, ⊎_elim}
+use mathlib.Core.Bool.{Bool, true, false, cond, ◌||◌, not}
+use mathlib.Core.Logic.{inl, inr, ⊎_elim}
 use mathlib.Core.Path.{◌≡◌, refl, sym, ◌∙◌, ap}
 use native.Mathlib.Omega.{arith}
 use borrow.Author.Tests.{ltb-true, ltb-false}
 use lib.Dec.{ltb, eqb}
-use lib.ListN.{length}
-use Rattle.rights.specs.declared.Rights.{Rights}
 use Rattle.rights.specs.declared.Service.{Service}
 use Rattle.services.specs.declared.Answers.{Answers}
 use Rattle.services.specs.declared.Given.{Given}
@@ -18,32 +16,29 @@ use Rattle.services.specs.declared.Standing.{Standing}
 use Rattle.services.specs.declared.Standings.{Standings}
 use Rattle.user_element.specs.declared.Note.{Note}
 use Rattle.user_element.specs.declared.Seen.{Seen}
-use Rattle.user_element.specs.Element.{whole_of, goes_out_of}
+use Rattle.user_element.specs.Element.{goes_out_of}
 use Rattle.answer.specs.declared.Answer.{Answer}
 use Rattle.answer.specs.Answer.{number_of, taken_of}
 use Rattle.phases.specs.declared.Phase.{Phase}
-use Rattle.phases.specs.Phase.{requested_of}
 use Rattle.sent.specs.declared.side.Side.{Side}
 use Rattle.event.specs.declared.Event.{Event}
 use Rattle.facility_rules.specs.declared.What.{What}
 use Rattle.facility_rules.specs.Messages.{not_granted_of}
 use Rattle.answering_rules.specs.declared.Fate.{Fate}
-use Rattle.answering_rules.specs.declared.Fates.{Fates}
 use Rattle.answering_rules.specs.Fates.{decided_of, alerting_fates_of, connect_fates_of}
 use Rattle.answering_rules.specs.Effects.{settled_of, told_of, declined_of, failure_of, in_force_after_of}
 use Rattle.flow_meter.specs.declared.Meter.{Meter}
 use Rattle.flow_meter.specs.declared.passage.Passage.{Passage}
 use Rattle.flow_meter.specs.Passage.{counted_of, paid_of, marked_of, under_three_of, passage_of}
 use Rattle.flow_meter.specs.CallMeters.{meter_of}
-use Rattle.information_rules.specs.Serving.{late_of, serves_two_of, serves_three_of, served_of}
-use Rattle.services.specs.Standing.{in_force_of, awaits_of}
+use Rattle.services.specs.Standing.{awaits_of}
 use Rattle.call.specs.declared.Call.{Call}
 use Rattle.call.specs.declared.reply.Reply.{Reply}
 use Rattle.call.specs.Facility.{facility_verdict_of}
 use Rattle.call.specs.Information.{information_passage_of}
 use Rattle.call.specs.Reply.{bar_of, refused_of, heard_of}
 use Rattle.call.specs.Sound.{sound_of}
-use Rattle.logic.specs.First.{Rows, end, row, First}
+use Rattle.logic.specs.First.{end, row, First}
 use Rattle.logic.proofs.Decide.{never, by_cond, Decides, Denies}
 use Rattle.call_promises.specs.Ranges.{Unsound}
 use Rattle.call_promises.specs.Numbers.{Allowed, OutOfRange, ServesTwo, ServesThree, AskedRequired, NotGranted, NotOpen, meter_from}
@@ -53,7 +48,6 @@ use Rattle.call_promises.specs.Sends.{Hears, Flags, Rides, Due, ringing, third, 
 use Rattle.call_promises.proofs.Heard.{Bar, unsound, phase, range}
 use Rattle.call_promises.proofs.Conditions.{serves_two, serves_three}
 use Rattle.call_promises.proofs.Numbers.{say_rows}
-use Rattle.call_promises.proofs.Phases.{requested}
 use Rattle.call_promises.proofs.Seen.{Sight, absent, malformed, too_long, whole}
 
 -- ---- an event let through, or not
@@ -146,21 +140,21 @@ module _ (p : Phase) (s : Standings) (a : Answers) where
   three_due g (third e) = e
 
   module _ (b : Bool) (d : Decides b (p ≡ Phase.Requested)) where
-    connect-by : (k : Service) (t : Standing) (g : Given) → (p ≡ Phase.Requested → Due p (Event.Connect a) k g) → ((h : Given) → Due p (Event.Connect a) k h → (p ≡ Phase.Requested) × (g ≡ h)) → (x : Bool) → b ≡ x → View p (Event.Connect a) k t (cond (not x) Fate.Kept (decided_of t g))
-    connect-by k t g f u true e = asked g (f (d.so e)) (λ h x. (u h x).1)
-    connect-by k t g f u false e = idle (λ h x. never (d.back (u h x).0) e)
+    connect_by : (k : Service) (t : Standing) (g : Given) → (p ≡ Phase.Requested → Due p (Event.Connect a) k g) → ((h : Given) → Due p (Event.Connect a) k h → (p ≡ Phase.Requested) × (g ≡ h)) → (x : Bool) → b ≡ x → View p (Event.Connect a) k t (cond (not x) Fate.Kept (decided_of t g))
+    connect_by k t g f u true e = asked g (f (d.so e)) (λ h x. (u h x).1)
+    connect_by k t g f u false e = idle (λ h x. never (d.back (u h x).0) e)
 
-    pub connect-one : View p (Event.Connect a) Service.One s.one (connect_fates_of (not b) s a).one
+    pub connect_one : View p (Event.Connect a) Service.One s.one (connect_fates_of (not b) s a).one
     unfolding connect_fates_of
-    connect-one = connect-by Service.One s.one a.one (λ r. first r refl) one_due b refl
+    connect_one = connect_by Service.One s.one a.one (λ r. first r refl) one_due b refl
 
-    pub connect-two : View p (Event.Connect a) Service.Two s.two (connect_fates_of (not b) s a).two
+    pub connect_two : View p (Event.Connect a) Service.Two s.two (connect_fates_of (not b) s a).two
     unfolding connect_fates_of
-    connect-two = connect-by Service.Two s.two Given.Silent (λ r. second r refl) two_due b refl
+    connect_two = connect_by Service.Two s.two Given.Silent (λ r. second r refl) two_due b refl
 
-    pub connect-three : View p (Event.Connect a) Service.Three s.three (connect_fates_of (not b) s a).three
+    pub connect_three : View p (Event.Connect a) Service.Three s.three (connect_fates_of (not b) s a).three
     unfolding connect_fates_of
-    connect-three = asked a.three (third refl) three_due
+    connect_three = asked a.three (third refl) three_due
 
 -- ---- what is open, and what an answer makes of it
 

@@ -161,39 +161,39 @@ module _ (c : Call) (what : What) where
   idle Side.Called v e f = record { call = rw e refl; calling = rw e refl; called = rw f refl }
 
   module _ (side : Side) where
-    granted-fair : FairVerdict c side what Answer.Taken
+    granted_fair : FairVerdict c side what Answer.Taken
     unfolding passes_facility_of reply_of
-    granted-fair = taken_fair c _ _ refl
+    granted_fair = taken_fair c _ _ refl
 
-    not-granted-fair : FairVerdict c side what Answer.NotGranted
+    not_granted_fair : FairVerdict c side what Answer.NotGranted
     unfolding passes_facility_of reply_of
-    not-granted-fair n = record { fourteen = λ h. absurd (omega arith); sixteen = λ _. tells (rejects side); others = λ a b. absurd (b refl) }
+    not_granted_fair n = record { fourteen = λ h. absurd (omega arith); sixteen = λ _. tells (rejects side); others = λ a b. absurd (b refl) }
 
-    not-open-fair : FairVerdict c side what Answer.NotOpen
+    not_open_fair : FairVerdict c side what Answer.NotOpen
     unfolding passes_facility_of reply_of
-    not-open-fair n = quiet c _ _ _ (omega arith) (omega arith) (idle side Answer.NotOpen refl refl)
+    not_open_fair n = quiet c _ _ _ (omega arith) (omega arith) (idle side Answer.NotOpen refl refl)
 
-    required-fair : FairVerdict c side what Answer.AskedRequired
+    required_fair : FairVerdict c side what Answer.AskedRequired
     unfolding passes_facility_of reply_of
-    required-fair n = quiet c _ _ _ (omega arith) (omega arith) (idle side Answer.AskedRequired refl refl)
+    required_fair n = quiet c _ _ _ (omega arith) (omega arith) (idle side Answer.AskedRequired refl refl)
 
-    request-fair : (may shut : Bool) → FairVerdict c side what (to_request_of may shut)
+    request_fair : (may shut : Bool) → FairVerdict c side what (to_request_of may shut)
     unfolding to_request_of
-    request-fair true true = not-open-fair
-    request-fair true false = granted-fair
-    request-fair false shut = not-granted-fair
+    request_fair true true = not_open_fair
+    request_fair true false = granted_fair
+    request_fair false shut = not_granted_fair
 
-    answer-fair : (shut : Bool) → FairVerdict c side what (to_answer_of shut)
+    answer_fair : (shut : Bool) → FairVerdict c side what (to_answer_of shut)
     unfolding to_answer_of
-    answer-fair true = not-open-fair
-    answer-fair false = granted-fair
+    answer_fair true = not_open_fair
+    answer_fair false = granted_fair
 
 verdict_fair : (c : Call) (side : Side) (what : What) → FairVerdict c side what (facility_verdict_of c side what)
 unfolding facility_verdict_of
-verdict_fair c side What.Preferred = request-fair c _ side _ _
-verdict_fair c side What.Accept = answer-fair c _ side _
-verdict_fair c side What.Reject = answer-fair c _ side _
-verdict_fair c side What.Required = required-fair c _ side
+verdict_fair c side What.Preferred = request_fair c _ side _ _
+verdict_fair c side What.Accept = answer_fair c _ side _
+verdict_fair c side What.Reject = answer_fair c _ side _
+verdict_fair c side What.Required = required_fair c _ side
 
 not_an_event_fair : (c : Call) (e : Event) (s : Bool) → sound_of c ≡ s → Fair c e (not_an_event_of c)
 unfolding not_an_event_of

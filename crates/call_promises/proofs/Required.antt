@@ -50,7 +50,7 @@ use Rattle.call_promises.proofs.Conditions.{has}
 -- a run goes on from where it came to
 pub run_append : (c : Call) (a b : List Offered) → run_of step_of c (a ++ b) ≡ run_of step_of (run_of step_of c a) b
 run_append c [] b = refl
-run_append c (o ∷ a) b = run_append _ a b
+run_append c (o ∷ a) b = run_append (step_of c o.event o.element).call a b
 
 -- how a service stands that SETUP asked for as required: open until its answer is due, in force from then on
 abbrev AtAlerting : Service → Standing → Type 0
@@ -213,7 +213,7 @@ step_due k c Event.CongestionControl l w = w
 -- a run
 run_due : (k : Service) (c : Call) (os : List Offered) → DueIn k c → DueIn k (run_of step_of c os)
 run_due k c [] w = w
-run_due k c (o ∷ os) w = run_due k _ os (step_due k c o.event o.element w)
+run_due k c (o ∷ os) w = run_due k (step_of c o.event o.element).call os (step_due k c o.event o.element w)
 
 when_taken : (P : Reply → Type 0) (c : Call) (a g : Bool) (r : Reply) {s : Reply} → Heard c a g r s → number_of s.answer ≡ 0 → P r → P s
 unfolding refused_of
@@ -234,11 +234,11 @@ required os k h e =
 
 -- a required service that fails
 lack : (rights : Rights) (k : Service) (q : Request) → Lacking rights k q → lacking_of q (has_of rights k) ≡ false → ⊥
-lack rights k q x h = x.1 ((has rights k).so (not-false _ (rw x.0 at h)))
+lack rights k q x h = x.1 ((has rights k).so (not_false _ (rw x.0 at h)))
   where
-    not-false : (b : Bool) → not b ≡ false → b ≡ true
-    not-false true h = refl
-    not-false false h = never refl h
+    not_false : (b : Bool) → not b ≡ false → b ≡ true
+    not_false true h = refl
+    not_false false h = never refl h
 
 lacks : (rights : Rights) (q : Requests) → LacksRequired rights q → lacks_of rights q ≡ false → ⊥
 lacks rights q (inl x) h = lack rights Service.One _ x (lacks_false rights q Service.One h)

@@ -1,14 +1,14 @@
 -- What each user is sent is what the sentences say, and nothing else.
 use Prim.Native.Nat.{ℕ}
 use mathlib.Core.List.{List}
-use mathlib.Core.Bool.{Bool, true, false, cond, ◌&&◌, ◌||◌, not}
-use mathlib.Core.Logic.{◌⊎◌, inl, inr, ⊎_elim}
+use mathlib.Core.Bool.{Bool, true, false, ◌&&◌, ◌||◌, not}
+use mathlib.Core.Logic.{inl, inr, ⊎_elim}
 use mathlib.Core.Path.{◌≡◌, refl, sym, ◌∙◌, ap, subst}
 use native.Mathlib.Omega.{arith}
 use Rattle.cause.specs.declared.Cause.{Cause}
 use Rattle.rights.specs.declared.Rights.{Rights}
 use Rattle.rights.specs.declared.Service.{Service}
-use Rattle.rights.specs.Rights.{has_of, rights_fit_of, reference_fits_of}
+use Rattle.rights.specs.Rights.{has_of}
 use Rattle.services.specs.declared.Answers.{Answers}
 use Rattle.services.specs.declared.Facilities.{Facilities}
 use Rattle.services.specs.declared.Given.{Given}
@@ -19,7 +19,7 @@ use Rattle.services.specs.declared.Standing.{Standing}
 use Rattle.services.specs.Standing.{in_force_of, awaits_of}
 use Rattle.user_element.specs.declared.Note.{Note}
 use Rattle.user_element.specs.declared.Seen.{Seen}
-use Rattle.user_element.specs.Element.{seen_of, whole_of, goes_out_of}
+use Rattle.user_element.specs.Element.{seen_of, goes_out_of}
 use Rattle.answer.specs.declared.Answer.{Answer}
 use Rattle.answer.specs.Answer.{taken_of}
 use Rattle.message_types.specs.declared.Kind.{Kind}
@@ -34,24 +34,23 @@ use Rattle.sent.specs.Message.{silence, saying_of, bare_of, congestion_of, infor
 use Rattle.event.specs.declared.Event.{Event}
 use Rattle.facility_rules.specs.declared.What.{What}
 use Rattle.facility_rules.specs.Messages.{facility_said_of, about_three_of, to_asker_of, to_other_of, not_granted_of}
-use Rattle.answering_rules.specs.declared.Fate.{Fate}
 use Rattle.answering_rules.specs.declared.Fates.{Fates}
 use Rattle.answering_rules.specs.Fates.{alerting_fates_of, connect_fates_of}
-use Rattle.answering_rules.specs.Effects.{told_of, declined_of, settled_of, failed_of, settles_of, tells_of, declines_of, failure_of}
-use Rattle.clearing_rules.specs.Closing.{rejection_of, closing_said_of, closing_standing_of, silent_answers, heard_answers_of, closing_facilities_of}
+use Rattle.answering_rules.specs.Effects.{told_of, declined_of, settled_of, failed_of, settles_of, tells_of, declines_of}
+use Rattle.clearing_rules.specs.Closing.{rejection_of, closing_said_of, silent_answers, heard_answers_of, closing_facilities_of}
 use Rattle.flow_meter.specs.declared.Meter.{Meter}
 use Rattle.flow_meter.specs.declared.passage.Passage.{Passage}
 use Rattle.flow_meter.specs.CallMeters.{ready_of}
 use Rattle.information_rules.specs.Messages.{to_sender_of, to_receiver_of}
 use Rattle.information_rules.specs.Serving.{serves_three_of}
-use Rattle.setup_rules.specs.Requests.{lacking_of, passed_request_of, network_refusal_of, lacks_of, passed_requests_of, network_refusals_of, to_caller_of, to_called_of, setup_carries_of}
+use Rattle.setup_rules.specs.Requests.{passed_request_of, network_refusal_of, lacks_of, passed_requests_of, network_refusals_of, to_caller_of, to_called_of, setup_carries_of}
 use Rattle.call.specs.declared.Call.{Call}
 use Rattle.call.specs.declared.reply.Reply.{Reply}
 use Rattle.call.specs.Answering.{answered_call_of, goes_on_of, clears_of, answering_of, answered_of, alerting_of, connect_of}
 use Rattle.call.specs.Disconnect.{one_after_of, passed_on_of, disconnect_of, ends_of, release_complete_of}
 use Rattle.call.specs.Facility.{facility_verdict_of, passes_facility_of, facility_of}
 use Rattle.call.specs.Information.{information_passage_of, carried_of, with_element_of, information_of}
-use Rattle.call.specs.Reply.{bar_of, refused_of, heard_of, reply_of}
+use Rattle.call.specs.Reply.{refused_of, reply_of}
 use Rattle.call.specs.Setup.{proceeds_of, setup_of}
 use Rattle.call.specs.Sound.{sound_of}
 use Rattle.call.specs.Step.{not_an_event_of, step_of}
@@ -62,14 +61,14 @@ use Rattle.call_promises.specs.Numbers.{Allowed, Has, ServesThree, AskedRequired
 use Rattle.call_promises.specs.Notes.{LacksRequired, Open, NotCarried, limit_for}
 use Rattle.call_promises.specs.Refusals.{sent_to}
 use Rattle.call_promises.specs.Handling.{Explicit}
-use Rattle.call_promises.specs.Services.{answer_for, standing_for}
-use Rattle.call_promises.specs.Sends.{Hears, Flags, Rides, telling, curt, congested, informing, Denied, denied, undenied, Remaining, preferred, required, gone, FailsAt, Answering, on, clears, clears_too, Intact, CountPays, CreditPays, FirstDropped, Agreed, Worded, request, accept, reject, Pending, Rejecting, Accepting, LastWord, rejects, accepts, mute, Sends, released, proceeding, setup, alerting, connect, passes, warns, facility, refuses, disconnect, release, ready, IsWhatIsSent, SendsExactly}
-use Rattle.call_promises.proofs.Conditions.{in_force, has, serves_three}
+use Rattle.call_promises.specs.Services.{answer_for}
+use Rattle.call_promises.specs.Sends.{Hears, Flags, Rides, telling, curt, congested, informing, Denied, denied, undenied, Remaining, preferred, required, gone, FailsAt, Answering, on, clears, clears_too, Intact, CountPays, CreditPays, FirstDropped, Agreed, Worded, request, accept, reject, Pending, LastWord, rejects, accepts, mute, Sends, released, proceeding, setup, alerting, connect, passes, warns, facility, refuses, disconnect, release, ready, IsWhatIsSent, SendsExactly}
+use Rattle.call_promises.proofs.Conditions.{has, serves_three}
 use Rattle.call_promises.proofs.Notes.{lacks, setup_carries, alerting_carries, connect_carries, disconnect_comes, carries_of}
 use Rattle.call_promises.proofs.Phases.{fresh, requested, connectable, talking, active, up, live}
 use Rattle.call_promises.proofs.Ranges.{unsound, reference_range, rights_range}
 use Rattle.call_promises.proofs.Seen.{Sight, absent, malformed, too_long, whole, sight}
-use Rattle.call_promises.proofs.Parts.{Let, through, stopped, let_through, Tests, tests, rides, one_flag, View, alerting_one, alerting_two, alerting_three, connect-one, connect-two, connect-three, settles_is, settles_one, turned_is, turned_one, failure, Outcome, sound, fails, outcome, Met, counted, paid, marked, spent, unserved, met, paid_once, left_once, Verdict, agreed, ungranted, neither, verdict, awaits}
+use Rattle.call_promises.proofs.Parts.{Let, through, stopped, let_through, Tests, tests, rides, one_flag, View, alerting_one, alerting_two, alerting_three, connect_one, connect_two, connect_three, settles_is, settles_one, turned_is, turned_one, failure, Outcome, sound, fails, outcome, Met, counted, paid, marked, spent, unserved, met, paid_once, left_once, Verdict, agreed, ungranted, neither, verdict, awaits}
 
 -- ---- a message and the sentence that sends it
 
@@ -223,26 +222,26 @@ module _ (c : Call) (l : List ℕ) (e : Event) (kind : Kind) (next : Phase) (f :
           λ j. telling kind Cause.Absent ((settles_one c e Service.One one s).1 j) ((settles_one c e Service.Two two t).1 j) ((settles_one c e Service.Three three u).1 j) (one_flag d g j)
       on_one n b d m (clears x s t u) = absurd (n _ _ x)
 
-      none-cleared : ((k : Service) (g : Given) → FailsAt c e k g → ⊥) → (m : Message) → Answering c l e kind Side.Called m → ⊥
-      none-cleared n m (clears_too x) = n _ _ x
+      none_cleared : ((k : Service) (g : Given) → FailsAt c e k g → ⊥) → (m : Message) → Answering c l e kind Side.Called m → ⊥
+      none_cleared n m (clears_too x) = n _ _ x
 
-      clears-one : (k : Service) (g : Given) → FailsAt c e k g → (m : Message) → Answering c l e kind Side.Calling m → rejections ≡ m
-      clears-one k g x m (on y s t v h) = absurd (y k g x)
-      clears-one k g x m (clears y s t v) =
+      clears_one : (k : Service) (g : Given) → FailsAt c e k g → (m : Message) → Answering c l e kind Side.Calling m → rejections ≡ m
+      clears_one k g x m (on y s t v h) = absurd (y k g x)
+      clears_one k g x m (clears y s t v) =
           λ j. telling Kind.Disconnect (Cause.Value 69) (turned_one c e Service.One one s j) (turned_one c e Service.Two two t j) (turned_one c e Service.Three three v j) false
 
-      called-one : (m : Message) → Answering c l e kind Side.Called m → curt Kind.Disconnect (Cause.Value 31) ≡ m
-      called-one m (clears_too x) = refl
+      called_one : (m : Message) → Answering c l e kind Side.Called m → curt Kind.Disconnect (Cause.Value 31) ≡ m
+      called_one m (clears_too x) = refl
 
-      pub answering-told : {seen : Seen} (x : Bool) → Outcome c e x → Sight l (limit_for c e) seen → Denies (not x && in_force_of (settled_of c.standings.one f.one)) (NotCarried c e) → (side : Side) → IsWhatIsSent (Answering c l e kind side) (sent_to (answering_of c kind next f seen x) side)
+      pub answering_told : {seen : Seen} (x : Bool) → Outcome c e x → Sight l (limit_for c e) seen → Denies (not x && in_force_of (settled_of c.standings.one f.one)) (NotCarried c e) → (side : Side) → IsWhatIsSent (Answering c l e kind side) (sent_to (answering_of c kind next f seen x) side)
       unfolding goes_on_of clears_of answered_call_of settles_of tells_of declines_of bare_of saying_of silence
-      answering-told false (sound n) v d Side.Calling =
+      answering_told false (sound n) v d Side.Calling =
           let b = rides c e l _ v (λ _. d) in
           told_by (answers _) refl (on n (settles_is c e Service.One one) (settles_is c e Service.Two two) (settles_is c e Service.Three three) b) (on_one n _ b)
-      answering-told false (sound n) v d Side.Called = told_none refl (none-cleared n)
-      answering-told true (fails k g x) v d Side.Calling =
-          told_by rejections refl (clears x (turned_is c e Service.One one) (turned_is c e Service.Two two) (turned_is c e Service.Three three)) (clears-one k g x)
-      answering-told true (fails k g x) v d Side.Called = told_by (curt Kind.Disconnect (Cause.Value 31)) refl (clears_too x) called-one
+      answering_told false (sound n) v d Side.Called = told_none refl (none_cleared n)
+      answering_told true (fails k g x) v d Side.Calling =
+          told_by rejections refl (clears x (turned_is c e Service.One one) (turned_is c e Service.Two two) (turned_is c e Service.Three three)) (clears_one k g x)
+      answering_told true (fails k g x) v d Side.Called = told_by (curt Kind.Disconnect (Cause.Value 31)) refl (clears_too x) called_one
 
 -- what is said of an answering message is said of its event
 wrapped : {P Q : Message → Type 0} {s : Sent} → ((m : Message) → P m → Q m) → ((m : Message) → Q m → P m) → IsWhatIsSent P s → IsWhatIsSent Q s
@@ -274,7 +273,7 @@ module _ (c : Call) (a : Answers) (l : List ℕ) where
       let y = alerting_two c.phase c.standings a in
       let z = alerting_three c.phase c.standings a in
       wrapped (λ m. alerting) (rang side)
-      (answering-told c l e Kind.Alerting Phase.Alerting _ x y z _
+      (answering_told c l e Kind.Alerting Phase.Alerting _ x y z _
       (outcome c e (failure c e Service.One x) (failure c e Service.Two y) (failure c e Service.Three z))
       (sight l c.rights.limit) (alerting_denies c a) side)
 
@@ -283,11 +282,11 @@ module _ (c : Call) (a : Answers) (l : List ℕ) where
   connect_told side =
       let e = Event.Connect a in
       let r = requested c.phase in
-      let x = connect-one c.phase c.standings a _ r in
-      let y = connect-two c.phase c.standings a _ r in
-      let z = connect-three c.phase c.standings a _ r in
+      let x = connect_one c.phase c.standings a _ r in
+      let y = connect_two c.phase c.standings a _ r in
+      let z = connect_three c.phase c.standings a _ r in
       wrapped (λ m. connect) (connected side)
-      (answering-told c l e Kind.Connect Phase.Active _ x y z _
+      (answering_told c l e Kind.Connect Phase.Active _ x y z _
       (outcome c e (failure c e Service.One x) (failure c e Service.Two y) (failure c e Service.Three z))
       (sight l c.rights.limit) (connect_denies c a) side)
 

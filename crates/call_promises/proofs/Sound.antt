@@ -48,15 +48,15 @@ unfolding setup_of alerting_of connect_of information_of facility_of disconnect_
 step_in c (Event.Setup reference rights q) l w =
     heard_in c _ _ _ (heard c _ _ _) w
     (λ _ _ g _. let t = (both _ _ (reference_range reference) (rights_range rights)).so g in setup_in reference rights q _ t.0 t.1)
-step_in c (Event.Alerting answers) l w =
+step_in c (Event.Alerting g) l w =
     live_in c _ _ _ w (λ h. inl (inl ((requested c.phase).so h))) (answered_in c _ _ _ l)
-step_in c (Event.Connect answers) l w =
+step_in c (Event.Connect g) l w =
     live_in c _ _ _ w (λ h. inl (⊎_elim (λ e. inl e) (λ e. inr (inl e)) ((connectable c.phase).so h))) (answered_in c _ _ _ l)
 step_in c (Event.Information side more) l w =
     live_in c _ _ _ w (λ h. inl (inr ((talking c.phase).so h))) (element_in_lem c side more _)
 step_in c (Event.Facility side what) l w =
     live_in c _ _ _ w (λ h. inl (inr (inr ((active c.phase).so h)))) (facility_in c side what _)
-step_in c (Event.Disconnect side cause answers) l w =
+step_in c (Event.Disconnect side cause g) l w =
     live_in c _ _ _ w (λ h. inl ((up c.phase).so h)) (record { reference = refl; rights = refl; meters = λ m. m })
 step_in c (Event.ReleaseComplete side) l w =
     live_in c _ _ _ w (λ h. (live c.phase).so h) (record { reference = refl; rights = refl; meters = λ m. m })
@@ -67,7 +67,7 @@ step_in c Event.CongestionControl l w = w
 -- a run
 pub run_in : (c : Call) (os : List Offered) → Good c → Good (run_of step_of c os)
 run_in c [] w = w
-run_in c (o ∷ os) w = run_in _ os (step_in c o.event o.element w)
+run_in c (o ∷ os) w = run_in (step_of c o.event o.element).call os (step_in c o.event o.element w)
 
 fresh_in : Good fresh_call
 unfolding fresh_call

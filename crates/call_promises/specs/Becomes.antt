@@ -9,8 +9,6 @@ use Rattle.services.specs.declared.Request.{Request}
 use Rattle.services.specs.declared.Requests.{Requests}
 use Rattle.services.specs.declared.Said.{Said}
 use Rattle.services.specs.declared.Standing.{Standing}
-use Rattle.services.specs.declared.Standings.{Standings}
-use Rattle.facility_rules.specs.declared.Asking.{Asking}
 use Rattle.facility_rules.specs.declared.What.{What}
 use Rattle.flow_meter.specs.declared.Meter.{Meter}
 use Rattle.flow_meter.specs.declared.call_meters.Meters.{Meters}

@@ -39,9 +39,9 @@ pub data CauseTold (c : Call) : Event → Side → Kind → Cause → Type 0 whe
       CauseTold c (Event.Connect a) Side.Calling Kind.Connect Cause.Absent
   -- USER INFORMATION: none in what goes on, 43 in not ready
   informs : {from to : Side} {more : Bool} → to ≡ other from → CauseTold c (Event.Information from more) to Kind.UserInformation Cause.Absent
-  not_ready_lem : {from to : Side} {more : Bool} → to ≡ from → CauseTold c (Event.Information from more) to Kind.CongestionControl (Cause.Value 43)
+  not_ready : {from to : Side} {more : Bool} → to ≡ from → CauseTold c (Event.Information from more) to Kind.CongestionControl (Cause.Value 43)
   -- FACILITY: none, in what is passed on and in what goes back
-  about_three_lem : {from to : Side} {what : What} → CauseTold c (Event.Facility from what) to Kind.Facility Cause.Absent
+  about_three : {from to : Side} {what : What} → CauseTold c (Event.Facility from what) to Kind.Facility Cause.Absent
   -- DISCONNECT: the user's own, whatever it is, also where it rejects a required service
   own :
       {from to : Side} {cause : ℕ} {a : Answers} → to ≡ other from →

@@ -68,7 +68,7 @@ not_ready =
       element = false;
     })
 
--- FACILITY with rejected_by_network for service 3
+-- FACILITY with rejectedByNetwork for service 3
 abbrev pub rejected_by_network : Sent
 rejected_by_network =
     Sent.Present
@@ -96,7 +96,7 @@ pub record Drops (c : Call) (side : Side) (r : Reply) : Type 0 where
   pub marked : ServesThree c → (meter_from c side).mark ≡ true
   pub unmoved : Unmoved c r
 
--- "16 sends the asker FACILITY with rejected_by_network."
+-- "16 sends the asker FACILITY with rejectedByNetwork."
 pub record Rejects (c : Call) (side : Side) (r : Reply) : Type 0 where
   pub call : r.call ≡ c
   pub back : sent_to r side ≡ rejected_by_network

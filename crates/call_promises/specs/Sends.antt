@@ -81,7 +81,7 @@ informing more =
       element = true;
     }
 
--- SETUP, to the caller: "rejected_by_network for every asked service the rights lack". "An implicit refusal is silent."
+-- SETUP, to the caller: "rejectedByNetwork for every asked service the rights lack". "An implicit refusal is silent."
 pub data Denied (r : Rights) (k : Service) (q : Request) : Said → Type 0 where
   denied : Explicit q → (Has r k → ⊥) → Denied r k q Said.ByNetwork
   undenied : (Explicit q → Has r k) → Denied r k q Said.Nothing
@@ -106,7 +106,7 @@ pub record Counts (c : Call) (e : Event) (k : Service) (g : Given) : Type 0 wher
   pub asked : Open (standing_for c.standings k)
 
 -- Where the message goes on: how a service stands after ALERTING or CONNECT, and what the caller is told of it.
--- "Accepted: in force. Preferred and not accepted: closed, rejected_by_user to the caller."
+-- "Accepted: in force. Preferred and not accepted: closed, rejectedByUser to the caller."
 pub data Settles (c : Call) (e : Event) (k : Service) : Standing → Said → Type 0 where
   accepted : Counts c e k Given.Accepted → Settles c e k Standing.InForce Said.Accepted
   declined : {g : Given} → Counts c e k g → (g ≡ Given.Accepted → ⊥) → Settles c e k Standing.Closed Said.ByUser
@@ -118,7 +118,7 @@ pub record FailsAt (c : Call) (e : Event) (k : Service) (g : Given) : Type 0 whe
   pub required : standing_for c.standings k ≡ Standing.Required
   pub refused : g ≡ Given.Accepted → ⊥
 
--- "DISCONNECT to the caller with rejected_by_user for each due service not accepted"
+-- "DISCONNECT to the caller with rejectedByUser for each due service not accepted"
 pub data TurnedDown (c : Call) (e : Event) (k : Service) : Said → Type 0 where
   turned : {g : Given} → Counts c e k g → (g ≡ Given.Accepted → ⊥) → TurnedDown c e k Said.ByUser
   unturned : ((g : Given) → Counts c e k g → g ≡ Given.Accepted) → TurnedDown c e k Said.Nothing
@@ -230,7 +230,7 @@ pub data Sends (c : Call) (l : List ℕ) : Event → Side → Message → Type 0
   facility :
       {side to : Side} {what : What} {s : Said} → to ≡ other side → Agreed c (Event.Facility side what) → Worded what s →
       Sends c l (Event.Facility side what) to (telling Kind.Facility Cause.Absent Said.Nothing Said.Nothing s false)
-  -- "16 sends the asker FACILITY with rejected_by_network"
+  -- "16 sends the asker FACILITY with rejectedByNetwork"
   refuses :
       {side to : Side} {what : What} → to ≡ side → (AskedRequired (Event.Facility side what) → ⊥) → NotGranted c (Event.Facility side what) →
       Sends c l (Event.Facility side what) to (telling Kind.Facility Cause.Absent Said.Nothing Said.Nothing Said.ByNetwork false)

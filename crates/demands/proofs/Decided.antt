@@ -16,7 +16,6 @@ use Rattle.sent.specs.declared.Sent.{Sent}
 use Rattle.sent.specs.declared.dispatch.Carrier.{Carrier}
 use Rattle.sent.specs.declared.side.Side.{Side}
 use Rattle.call.specs.declared.Call.{Call}
-use Rattle.call.specs.declared.reply.Reply.{Reply}
 use Rattle.event.specs.declared.Event.{Event}
 use Rattle.call.specs.Step.{step_of}
 use Rattle.call_promises.specs.Numbers.{Core, answer_rows, AnswersExactly}
@@ -25,7 +24,7 @@ use Rattle.call_promises.specs.Refusals.{sent_to}
 use Rattle.call_promises.specs.Sends.{IsWhatIsSent, SendsExactly}
 use Rattle.call_promises.specs.Carriers.{IsTheCarrier, CarriersExactly}
 use Rattle.call_promises.specs.Becomes.{IsTheRecord, BecomesExactly}
-use Rattle.demands.specs.Demands.{Demands, Decided}
+use Rattle.demands.specs.Demands.{Decided}
 use Rattle.demands.proofs.Meets.{meets}
 
 -- a number tells its answer, and its note

@@ -3,7 +3,7 @@ use Prim.Native.Nat.{ℕ, ◌<◌, ◌≤◌}
 use mathlib.Core.List.{List}
 use mathlib.Core.Logic.{◌⊎◌, inl, inr, ⊎_elim}
 use mathlib.Core.Bool.{Bool}
-use mathlib.Core.Path.{◌≡◌, refl, sym, ◌∙◌, ap}
+use mathlib.Core.Path.{◌≡◌, sym, ◌∙◌, ap}
 use native.Mathlib.Omega.{arith}
 use lib.ListN.{get_or, set}
 use Rattle.answer.specs.declared.Answer.{Answer}
@@ -26,7 +26,7 @@ use Rattle.table.specs.Step.{step_outcome, step_table}
 use Rattle.call_promises.specs.Numbers.{Informs, sends, Says, tells}
 use Rattle.call_promises.specs.Numbers.{other as elsewhere}
 use Rattle.call_promises.specs.Ranges.{ReferenceInRange, RightsInRange}
-use Rattle.call_promises.specs.Refusals.{sent_to, Unmoved, Marks, Drops, Rejects, Refusal, with_mark, not_ready, rejected_by_network}
+use Rattle.call_promises.specs.Refusals.{sent_to, Unmoved, Marks, Drops, Refusal, rejected_by_network}
 use Rattle.call_promises.proofs.Refusals.{refusals}
 use Rattle.table_promises.specs.Table.{Faulty, twins, LiveAt, Names, holding, Held, Full, SetsUp, Other, number_at, OneSpent}
 use Rattle.table_promises.specs.Table.{setup as at-setup}
@@ -131,6 +131,15 @@ joined t s n l o (Event.Information side more) x y f (sends (inr d)) =
   where
     here : (at : Side) → out_to o at ≡ sent_to (step_of (get_or t x.place fresh_call) (Event.Information side more) l) at
     here at = own_sent at y.reply ∙ ap (λ (i : ℕ). sent_to (step_of (get_or t i fresh_call) (Event.Information side more) l) at) (same t n y.place x.place f (live_of y.named) x.live)
+joined t s n l o (Event.Setup _ _ _) x y f h = elim h [ ]
+joined t s n l o (Event.Alerting _) x y f h = elim h [ ]
+joined t s n l o (Event.Connect _) x y f h = elim h [ ]
+joined t s n l o (Event.Facility _ _) x y f h = elim h [ ]
+joined t s n l o (Event.Disconnect _ _ _) x y f h = elim h [ ]
+joined t s n l o (Event.ReleaseComplete _) x y f h = elim h [ ]
+joined t s n l o Event.Tick x y f h = elim h [ ]
+joined t s n l o Event.CallProceeding x y f h = elim h [ ]
+joined t s n l o Event.CongestionControl x y f h = elim h [ ]
 
 -- a row of another number does not apply
 barred : {P Q : Type 0} {k m : ℕ} → (m ≡ k → ⊥) → (P × (m ≡ k)) ⊎ ((P → ⊥) × Q) → (P → ⊥) × Q

@@ -191,7 +191,7 @@ cause_absent (Cause.Value n) = false
 
 abbrev pub bare_release : Sent → Bool
 bare_release Sent.Absent = false
-bare_release (Sent.Present m) = eqb (kind_octet m.kind) 0x5_a && cause_absent m.cause
+bare_release (Sent.Present m) = eqb (kind_octet m.kind) 0x5A && cause_absent m.cause
 
 abbrev pub returns : Call → Reply → Reply
 returns c r =

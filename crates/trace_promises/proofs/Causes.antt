@@ -120,10 +120,10 @@ tick_says_lem c = record { calling = only_in _ _ (congestion_in Level.Ready); ca
 
 -- "DISCONNECT, cause over 127" is barred
 ranged_bar : (s a g : Bool) → taken_of (cond s (cond a (cond g Answer.Taken Answer.OutOfRange) Answer.OutOfPhase) Answer.Unsound) ≡ true → g ≡ true
-ranged_bar true true g h = by_cond (λ x. taken_of x ≡ true → g ≡ true) g (λ e _. e) (λ _ z. absurd-of z) h
+ranged_bar true true g h = by_cond (λ x. taken_of x ≡ true → g ≡ true) g (λ e _. e) (λ _ z. absurd_of z) h
   where
-    absurd-of : false ≡ true → g ≡ true
-    absurd-of z = let y : ◌≡◌ {A = ℕ} 0 1 = cc in absurd (omega arith)
+    absurd_of : false ≡ true → g ≡ true
+    absurd_of z = let y : ◌≡◌ {A = ℕ} 0 1 = cc in absurd (omega arith)
 ranged_bar true false g h = let y : ◌≡◌ {A = ℕ} 0 1 = cc in absurd (omega arith)
 ranged_bar false a g h = let y : ◌≡◌ {A = ℕ} 0 1 = cc in absurd (omega arith)
 

@@ -203,9 +203,9 @@ unfolding line_of
 line_some explained a = simp length-append (omega arith)
 
 pub fault_short : (f : Fault) → length (fault_line f) ≤ 143
-fault_short f = let n = at_most 1 (trace_fault_number f) (omega (arith, fault-small f)) in simp length-append (omega arith)
+fault_short f = let n = at_most 1 (trace_fault_number f) (omega (arith, fault_small f)) in simp length-append (omega arith)
   where
-    fault-small : (f : Fault) → trace_fault_number f ≤ 33
-    fault-small Fault.Kind = omega arith
-    fault-small Fault.Short = omega arith
-    fault-small (Fault.Range f) = omega arith
+    fault_small : (f : Fault) → trace_fault_number f ≤ 33
+    fault_small Fault.Kind = omega arith
+    fault_small Fault.Short = omega arith
+    fault_small (Fault.Range f) = omega arith

@@ -1,6 +1,6 @@
 -- The course of a trace, record by record; and what a piece of it makes is the front of that.
 use Prim.Native.Nat.{ℕ, zero, suc, ◌≤◌}
-use mathlib.Core.List.{List, [], ◌∷◌, ◌++◌, append_assoc, append-nil}
+use mathlib.Core.List.{List, [], ◌∷◌, ◌++◌, append-nil}
 use mathlib.Core.Bool.{Bool, true, false, cond}
 use mathlib.Core.Path.{◌≡◌, refl, ◌∙◌}
 use native.Mathlib.Omega.{arith}
@@ -89,13 +89,13 @@ module _ (calls : List Call) (t more : List ℕ) where
   went_fault f h = record { within = omega arith; made = course_fault calls (t ++ more) f h }
 
   module _ (e : Entry) (w : Whole t e) where
-    same-turned : turned_at calls e (t ++ more) ≡ turned_at calls e t
+    same_turned : turned_at calls e (t ++ more) ≡ turned_at calls e t
     unfolding turned_at
-    same-turned = rw (same_element t more e w)
+    same_turned = rw (same_element t more e w)
 
-    same-answered : answered_at calls e (t ++ more) ≡ answered_at calls e t
+    same_answered : answered_at calls e (t ++ more) ≡ answered_at calls e t
     unfolding answered_at
-    same-answered = rw same-turned
+    same_answered = rw same_turned
 
     went_line : (r : Ran) → record_of (t ++ more) ≡ Record.Taken e → Went (turned_at calls e t).calls (drop (size_of e.kind) t) more r → Went calls t more (goes (size_of e.kind) (answered_at calls e t) r)
     unfolding after
@@ -105,7 +105,7 @@ module _ (calls : List Call) (t more : List ℕ) where
           within = omega (arith, rw length-drop at g.within);
           made =
               course_taken calls (t ++ more) e h
-              ∙ rw (same-answered, same-turned, drop-append-le (size_of e.kind) t more n, g.made, drop-drop r.used (size_of e.kind) t)
+              ∙ rw (same_answered, same_turned, drop-append-le (size_of e.kind) t more n, g.made, drop-drop r.used (size_of e.kind) t)
               (one_more (size_of e.kind) (answered_at calls e t) r _ r.end);
         }
 

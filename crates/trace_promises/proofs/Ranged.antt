@@ -129,7 +129,9 @@ module _ (t : List ℕ) (p : ℕ) (there : p ≡ 0 → ⊥) (within : p + 132 �
   held w = simp (le-ltb n 2 w.least, le-ltb 131 n w.most, eq-eqb _ _ w.first, eq-eqb _ _ w.second)
 
   form_so : (b : Bool) → form ≡ b → (x : Tested) → Says (Fields.field Field.Zeros (Zeros t (p + 1 + n) (p + 132)) Fields.none) x → Says (element_fields t p) (cond b x (Tested.Out Field.Element))
-  form_so true e x s = passes Field.Element ((n ≡ 0) ⊎ HoldsElement t p) _ x (form_in _ refl e) s
+  form_so true e x s =
+      passes Field.Element ((n ≡ 0) ⊎ HoldsElement t p) (Fields.field Field.Zeros (Zeros t (p + 1 + n) (p + 132)) Fields.none) x
+      (form_in _ refl e) s
   form_so false e x s = inl (refl, λ w. true≢false (sym (⊎_elim absent held w) ∙ e))
 
   element_says : Says (element_fields t p) (element_out_of p t)
@@ -143,21 +145,29 @@ module _ (t : List ℕ) where
   says : (k : RecordKind) → size_of k ≤ length t → Says (fields_of k t) (first_out_of (layout_of k) t)
   unfolding first_out_of up_to_of three_of element_out_of form_fits_of zeros_fit_of
   says RecordKind.Setup s =
-      up_to_says Field.Late 1 t _ _
-      (up_to_says Field.Leave 1 t _ _
-      (three_says Field.Request t _ _ (element_says t 12 (λ z. omega arith) (omega arith)) 9 (λ z. omega arith))
+      let element = element_fields t 12 in
+      let three = three_fields Field.Request t 9 element in
+      up_to_says Field.Late 1 t (Fields.field Field.Leave (get_or t 5 0 ≤ 1) three) _
+      (up_to_says Field.Leave 1 t three _
+      (three_says Field.Request t element _ (element_says t 12 (λ z. omega arith) (omega arith)) 9 (λ z. omega arith))
       3 2 (λ z. omega arith))
       3 1 (λ z. omega arith)
-  says RecordKind.Alerting s = three_says Field.Answer t _ _ (element_says t 6 (λ z. omega arith) (omega arith)) 3 (λ z. omega arith)
-  says RecordKind.Connect s = three_says Field.Answer t _ _ (element_says t 6 (λ z. omega arith) (omega arith)) 3 (λ z. omega arith)
+  says RecordKind.Alerting s =
+      three_says Field.Answer t (element_fields t 6) _ (element_says t 6 (λ z. omega arith) (omega arith)) 3 (λ z. omega arith)
+  says RecordKind.Connect s =
+      three_says Field.Answer t (element_fields t 6) _ (element_says t 6 (λ z. omega arith) (omega arith)) 3 (λ z. omega arith)
   says RecordKind.Information s =
-      up_to_says Field.Side 1 t _ _ (element_says t 4 (λ z. omega arith) (omega arith)) 3 0 (λ z. omega arith)
+      up_to_says Field.Side 1 t (element_fields t 4) _ (element_says t 4 (λ z. omega arith) (omega arith)) 3 0 (λ z. omega arith)
   says RecordKind.Facility s =
-      up_to_says Field.Side 1 t _ _ (up_to_says Field.What 3 t Fields.none Tested.InRange tt 4 0 (λ z. omega arith)) 3 0 (λ z. omega arith)
+      up_to_says Field.Side 1 t (Fields.field Field.What (get_or t 4 0 ≤ 3) Fields.none) _
+      (up_to_says Field.What 3 t Fields.none Tested.InRange tt 4 0 (λ z. omega arith))
+      3 0 (λ z. omega arith)
   says RecordKind.Disconnect s =
-      up_to_says Field.Side 1 t _ _
-      (up_to_says Field.Cause 127 t _ _
-      (three_says Field.Answer t _ _ (element_says t 8 (λ z. omega arith) (omega arith)) 5 (λ z. omega arith))
+      let element = element_fields t 8 in
+      let three = three_fields Field.Answer t 5 element in
+      up_to_says Field.Side 1 t (Fields.field Field.Cause (get_or t 4 0 ≤ 127) three) _
+      (up_to_says Field.Cause 127 t three _
+      (three_says Field.Answer t element _ (element_says t 8 (λ z. omega arith) (omega arith)) 5 (λ z. omega arith))
       4 0 (λ z. omega arith))
       3 0 (λ z. omega arith)
   says RecordKind.ReleaseComplete s = up_to_says Field.Side 1 t Fields.none Tested.InRange tt 3 0 (λ z. omega arith)
@@ -190,12 +200,12 @@ module _ (t : List ℕ) where
     pub first_out : (f : Field) → first_out_of (layout_of k) t ≡ Tested.Out f → FirstOut (fields_of k t) f
     first_out f e = rw e at (says k s)
 
-    pub not-in-range : (f : Field) → first_out_of (layout_of k) t ≡ Tested.Out f → FieldsInRange k t → ⊥
-    not-in-range f e i = not_both (fields_of k t) f (in_all k i) (first_out f e)
+    pub not_in_range : (f : Field) → first_out_of (layout_of k) t ≡ Tested.Out f → FieldsInRange k t → ⊥
+    not_in_range f e i = not_both (fields_of k t) f (in_all k i) (first_out f e)
 
-    by-test : (x : Tested) → first_out_of (layout_of k) t ≡ x → FieldsInRange k t → x ≡ Tested.InRange
-    by-test Tested.InRange e i = refl
-    by-test (Tested.Out f) e i = absurd (not-in-range f e i)
+    by_test : (x : Tested) → first_out_of (layout_of k) t ≡ x → FieldsInRange k t → x ≡ Tested.InRange
+    by_test Tested.InRange e i = refl
+    by_test (Tested.Out f) e i = absurd (not_in_range f e i)
 
     pub ranged : FieldsInRange k t → first_out_of (layout_of k) t ≡ Tested.InRange
-    ranged i = by-test _ refl i
+    ranged i = by_test _ refl i

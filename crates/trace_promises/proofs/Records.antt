@@ -18,8 +18,8 @@ use Rattle.trace.specs.declared.ranges.Tested.{Tested}
 use Rattle.trace.specs.Kind.{record_kind_of, layout_of, size_of}
 use Rattle.trace.specs.Ranges.{first_out_of}
 use Rattle.trace.specs.Reading.{entry_of, whole_of, named_of, record_of}
-use Rattle.trace_promises.specs.Records.{record_number, body_of, Short, record_rows, Records}
-use Rattle.trace_promises.proofs.Ranged.{in_range_lem, not-in-range}
+use Rattle.trace_promises.specs.Records.{record_number, body_of, record_rows, Records}
+use Rattle.trace_promises.proofs.Ranged.{in_range_lem, not_in_range}
 
 -- the layout has the paper's bodies
 size_is : (k : RecordKind) → size_of k ≡ 1 + body_of k
@@ -46,7 +46,7 @@ module _ (t : List ℕ) where
   some n k e f false (Tested.Out g) s r l =
       let known = e ∙ f in
       let whole = ltb-false (length t) (size_of k) s in
-      inr ((λ u. let z : ◌≡◌ {A = ℕ} 0 1 = cc (known, u.1) in omega arith), inr ((λ u. let v = rw known at u.1 in omega (arith, size_is k)), inl ((l, rw known (not-in-range t k whole g r)), refl)))
+      inr ((λ u. let z : ◌≡◌ {A = ℕ} 0 1 = cc (known, u.1) in omega arith), inr ((λ u. let v = rw known at u.1 in omega (arith, size_is k)), inl ((l, rw known (not_in_range t k whole g r)), refl)))
 
   by_kind : (n : NamedKind) → record_kind_of (get_or t 0 0) ≡ n → 1 ≤ length t → First (record_rows t) (record_number (named_of n t))
   by_kind NamedKind.Unknown e l = inl ((l, e), refl)

@@ -1,5 +1,5 @@
 -- The promises, and what they rest on.
-use Prim.Native.Nat.{ℕ, zero, suc, ◌+◌, ◌≤◌}
+use Prim.Native.Nat.{ℕ, zero, suc, ◌≤◌}
 use mathlib.Core.List.{List, [], ◌∷◌, ◌++◌, append_assoc, append-nil}
 use mathlib.Core.Bool.{Bool, true, false, cond}
 use mathlib.Core.Logic.{◌⊎◌, inl, inr, ⊎_elim}
@@ -19,7 +19,7 @@ use Rattle.trace_run.specs.declared.turn.Ending.{Ending}
 use Rattle.trace_run.specs.Front.{heeded_of, front_of}
 use Rattle.trace_run.specs.Course.{Answered, Course, course_of, Output, text_of, lines}
 use Rattle.trace_run.specs.Run.{line_at, Ran, ran_text, turn_of, run_in, trace_run_of}
-use Rattle.trace_promises.specs.WholeRun.{course_text, places, printed_of, nothing_at, followed, GoesOn, Octets, longest, Bounded, Fits, Idle, Run, Whole, WholeRun, HasRun, Always}
+use Rattle.trace_promises.specs.WholeRun.{course_text, places, printed_of, followed, GoesOn, Octets, longest, Bounded, Fits, Idle, Run, Whole, WholeRun, HasRun, Always}
 use Rattle.logic.proofs.Decide.{by_cond}
 use Rattle.trace_promises.proofs.Fronts.{record_none}
 use Rattle.trace_promises.proofs.Making.{taken, none_left, cut_short, course_end, Went, went}
@@ -42,30 +42,30 @@ module _ (p : Output) (last : Bool) (calls : List Call) (room : ℕ) where
   Resting (Record.Refused (Fault.Range x)) = ⊥
 
   module _ (t : List ℕ) (fits : Fits p room calls t) (next : Entry → Ran) where
-    fault-resting : (f : Fault) → record_of t ≡ Record.Refused f → Idle (turn_of (Front.Faulty f) p room calls t next) → ⊥
-    fault-resting f e h =
+    fault_resting : (f : Fault) → record_of t ≡ Record.Refused f → Idle (turn_of (Front.Faulty f) p room calls t next) → ⊥
+    fault_resting f e h =
         let s = rw (le-leb (length (p.fault f)) room (fits.fault f e)) at h.end in
         let z : ◌≡◌ {A = ℕ} 0 1 = cc in
         omega arith
 
-    short-resting : (b : Bool) → record_of t ≡ Record.Refused Fault.Short → Idle (turn_of (cond b (Front.Faulty Fault.Short) Front.Waits) p room calls t next) → b ≡ false
-    short-resting true e h = absurd (fault-resting Fault.Short e h)
-    short-resting false e h = refl
+    short_resting : (b : Bool) → record_of t ≡ Record.Refused Fault.Short → Idle (turn_of (cond b (Front.Faulty Fault.Short) Front.Waits) p room calls t next) → b ≡ false
+    short_resting true e h = absurd (fault_resting Fault.Short e h)
+    short_resting false e h = refl
 
-    resting-turn : (r : Record) → record_of t ≡ r → Idle (turn_of (heeded_of last r) p room calls t next) → Resting r
-    resting-turn Record.End e h = tt
-    resting-turn (Record.Taken x) e h =
+    resting_turn : (r : Record) → record_of t ≡ r → Idle (turn_of (heeded_of last r) p room calls t next) → Resting r
+    resting_turn Record.End e h = tt
+    resting_turn (Record.Taken x) e h =
         let s = rw (le-leb (length (line_at p calls x t)) room (fits.line x e)) at h.none in
         let n = ap length s in
         omega arith
-    resting-turn (Record.Refused Fault.Kind) e h = fault-resting Fault.Kind e h
-    resting-turn (Record.Refused Fault.Short) e h = short-resting last e h
-    resting-turn (Record.Refused (Fault.Range x)) e h = fault-resting (Fault.Range x) e h
+    resting_turn (Record.Refused Fault.Kind) e h = fault_resting Fault.Kind e h
+    resting_turn (Record.Refused Fault.Short) e h = short_resting last e h
+    resting_turn (Record.Refused (Fault.Range x)) e h = fault_resting (Fault.Range x) e h
 
   resting : (t : List ℕ) → Fits p room calls t → Idle (trace_run_of p last room calls t) → Resting (record_of t)
   unfolding trace_run_of run_in front_of record_of
   resting [] fits h = tt
-  resting (x ∷ t) fits h = resting-turn (x ∷ t) fits _ (record_of (x ∷ t)) refl h
+  resting (x ∷ t) fits h = resting_turn (x ∷ t) fits _ (record_of (x ∷ t)) refl h
 
 module _ (p : Output) (calls : List Call) (room : ℕ) (t : List ℕ) where
   waiting : (r : Record) → record_of t ≡ r → Resting p false calls room r → length t ≤ 143

@@ -7,7 +7,6 @@ use mathlib.Core.Path.{◌≡◌, refl, sym, ap, ◌∙◌}
 use native.Mathlib.Omega.{arith}
 use lib.ListN.{length}
 use Rattle.facility.specs.declared.Component.{Component}
-use Rattle.facility.specs.declared.Facility.{Facility}
 use Rattle.facility.specs.declared.Service.{Service}
 use Rattle.facility.specs.Facility.{invoke_number}
 use Rattle.memory.specs.Numbers.{wrote_number}

@@ -29,7 +29,7 @@ abbrev pub host : Host
 host = record { width = Width.One; flag = false; reference = 5; one = 11; two = 12; three = 13 }
 
 abbrev pub buffer : List ℕ
-buffer = replicate 100 0x_ff
+buffer = replicate 100 0xFF
 
 abbrev pub written_in : Wrote → List ℕ → List ℕ
 written_in (Wrote.To n) b = take n b
@@ -56,13 +56,13 @@ cause v = 8 ∷ 2 ∷ 0x82 ∷ (0x80 + v) ∷ []
 
 abbrev pub asks : ℕ → ℕ → ℕ → List ℕ
 asks id service preferred =
-    0x1_c ∷ 17 ∷ 0x91 ∷ 0x_a1 ∷ 14 ∷ 2 ∷ 1 ∷ id ∷ 2 ∷ 1 ∷ 1 ∷ 0x30 ∷ 6 ∷ 0x81 ∷ 1 ∷ service ∷ 0x82 ∷ 1 ∷ preferred ∷ []
+    0x1C ∷ 17 ∷ 0x91 ∷ 0xA1 ∷ 14 ∷ 2 ∷ 1 ∷ id ∷ 2 ∷ 1 ∷ 1 ∷ 0x30 ∷ 6 ∷ 0x81 ∷ 1 ∷ service ∷ 0x82 ∷ 1 ∷ preferred ∷ []
 
 abbrev pub accepts : ℕ → List ℕ
-accepts id = 0x1_c ∷ 6 ∷ 0x91 ∷ 0x_a2 ∷ 3 ∷ 2 ∷ 1 ∷ id ∷ []
+accepts id = 0x1C ∷ 6 ∷ 0x91 ∷ 0xA2 ∷ 3 ∷ 2 ∷ 1 ∷ id ∷ []
 
 abbrev pub rejects : ℕ → ℕ → List ℕ
-rejects id error = 0x1_c ∷ 9 ∷ 0x91 ∷ 0x_a3 ∷ 6 ∷ 2 ∷ 1 ∷ id ∷ 2 ∷ 1 ∷ error ∷ []
+rejects id error = 0x1C ∷ 9 ∷ 0x91 ∷ 0xA3 ∷ 6 ∷ 2 ∷ 1 ∷ id ∷ 2 ∷ 1 ∷ error ∷ []
 
 abbrev pub all_three : Offered
 all_three = setup 7 Request.Required Request.Preferred Request.Required 131 (element_of 5)
@@ -78,7 +78,7 @@ samples =
       before = [];
       event = all_three;
       side = Side.Called;
-      front = header 0x05 ++ asks 11 1 0 ++ asks 12 2 0x_ff ++ asks 13 3 0;
+      front = header 0x05 ++ asks 11 1 0 ++ asks 12 2 0xFF ++ asks 13 3 0;
       element = element_of 5;
     }
     ∷ record {
@@ -99,19 +99,19 @@ samples =
       front = header 0x02 ++ rejects 13 1;
       element = [];
     }
-    ∷ record { before = spent; event = says Side.Called; side = Side.Called; front = header 0x79 ++ (0x_bf ∷ cause 43); element = [] }
+    ∷ record { before = spent; event = says Side.Called; side = Side.Called; front = header 0x79 ++ (0xBF ∷ cause 43); element = [] }
     ∷ record {
       before = spent ++ (says Side.Called ∷ []);
       event = bare Event.Tick;
       side = Side.Called;
-      front = header 0x79 ++ (0x_b0 ∷ cause 43);
+      front = header 0x79 ++ (0xB0 ∷ cause 43);
       element = [];
     }
     ∷ record {
       before = served;
       event = record { event = Event.Information Side.Calling true; element = element_of 4 };
       side = Side.Called;
-      front = header 0x20 ++ (0x_a0 ∷ []);
+      front = header 0x20 ++ (0xA0 ∷ []);
       element = element_of 4;
     }
     ∷ record {
