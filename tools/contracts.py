@@ -54,16 +54,16 @@ def heads(file):
 
 def form_of(head):
     """The form of a contract. Equations, and what follows from an equation, are of the first."""
-    promise = re.search(r"ensures \{ λ (\w+)\. ⌜ (.*?) ⌝ \}", head)
+    promise = re.search(r"ensures (?:\w+ )?\{ (.*?) \}", head)
     if not promise:
         return "None"
-    first = promise[2].lstrip("(").split()[0]
+    first = promise[1].lstrip("(").split()[0]
     for form, word, _ in FORMS:
         if word and first == word:
             return form
-    if first == promise[1] or first == "now":
+    if first.split(".")[0] == "result" or first.endswith(".new"):
         return "Value"
-    raise SystemExit(f"a contract of no form: {promise[2]}")
+    raise SystemExit(f"a contract of no form: {promise[1]}")
 
 
 def main():

@@ -1,23 +1,31 @@
 #!/usr/bin/env python3
-"""respell.py: brings the names that this repository defines in antt to snake case, once, after the toolchain's own script.
+"""Brings the names that this repository defines in antt to snake case, once, after the toolchain's own script.
 
 Run at the top of the repository, over the files that the toolchain's script has turned. What it renames:
-- words in camel case that begin with a small letter (definitions, constructors, fields, variables): activeOf -> active_of;
-- words with a dash that a file of specs/ or proofs/ (not of a function's proof) declares: in-bar -> in_bar.
-Names that come from a library keep their spelling, and so do functions of src/, strings, and comments but for names that
-they cite. A lemma that would fall together with its definition gets the ending _lem, and is reported.
+- words in camel case that begin with a small letter (definitions, constructors, fields, variables): activeOf ->
+  active_of;
+- words with a dash that a file of specs/ or proofs/ (not of a function's proof) declares: in-bar -> in_bar; in a second
+  pass those that stand further in, in a module of a file.
+Names that come from a library keep their spelling, and so do functions of src/, strings, and comments but for names
+that they cite, and what they quote of the paper. A lemma that would fall together with its definition gets the ending _lem,
+a definition that would fall together with a word of a library _of, and both are reported.
 """
 import os
 import re
 import sys
 
+# The paper's own words, in what comments quote of it.
+QUOTED = {"rejectedByNetwork", "rejectedByUser"}
 # Lemmas in snake case already, in a file that names the definition of the new spelling too.
 LEMMAS = {"no_place": "no_place_lem", "plain_rows": "plain_rows_lem"}
-WORD = re.compile(r"[A-Za-z_#κλ][\w'#]*(?:-[\w']+)*")
+WORD = re.compile(r"(?<!\d)[A-Za-z_#κλ][\w'#]*(?:-[\w']+)*")
+INNER = re.compile(r"(?<![\d.\w'-])[A-Za-z_][\w']*(?:-[\w']+)*(?![\w'-])")
 USE = re.compile(r"^(?:ghost |pub )*use ([\w·.+'-]+)(?:\.\{([^}]*)\})?(?: as ([\w#'-]+))?", re.M)
+MARKS = r"(?:(?:abbrev|unfoldable|opaque|pub) )*"
 DECLARED = re.compile(
-    r"^(?:(?:abbrev|unfoldable|opaque|pub) )*([^\s:({=,;]+)((?: [^\s:({=,;]+)*) :(?!=)|^  (?:pub )?([^\s:({=,;]+) :(?!=)", re.M
+    r"^" + MARKS + r"([^\s:({=,;]+)((?: [^\s:({=,;]+)*) :(?!=)|^  (?:pub )?([^\s:({=,;]+) :(?!=)", re.M
 )
+DASHED = re.compile(r"^\s*" + MARKS + r"([a-z][\w']*(?:-[\w']+)+)((?: [^\s:({=,;]+)*) :(?!=)")
 
 
 def files(root, *endings):
@@ -46,6 +54,32 @@ def snake(word):
 
 def is_camel(word):
     return re.match(r"[a-z]", word) and re.search(r"[A-Z]", word) and "-" not in word
+
+
+def inner(root):
+    """A second pass, for names with a dash that stand further in, in a module of a file."""
+    texts = {p: read(p) for p in files(root, ".antt")}
+    declared = set()
+    for p, t in texts.items():
+        if os.path.basename(p) != "Proof.antt":
+            for line in t.split("\n"):
+                m = DASHED.match(line)
+                if m and not line.startswith("use"):
+                    declared.update(w for w in (m.group(1) + m.group(2)).split() if "-" in w)
+    found = {p: set(INNER.findall(t)) for p, t in texts.items()}
+    rename = {}
+    for w in declared:
+        new = w.replace("-", "_")
+        rename[w] = new + "_lem" if any(w in f and new in f for f in found.values()) else new
+    for p, t in texts.items():
+        new = "\n".join(
+            line if line.lstrip().startswith("--") else INNER.sub(lambda m: rename.get(m.group(0), m.group(0)), line)
+            for line in t.split("\n")
+        )
+        if new != t:
+            with open(p, "w", encoding="utf-8") as f:
+                f.write(new)
+    print(f"respell: {len(rename)} names further in")
 
 
 def add(rename, taken, w, new, ending):
@@ -92,7 +126,7 @@ def main(root):
 
             def turn(m):
                 w = m.group(0)
-                if w in rename and not (comment and "-" in w) and not ("-" in w and p.endswith((".rt",))):
+                if w in rename and not (comment and ("-" in w or w in QUOTED)) and not ("-" in w and p.endswith((".rt",))):
                     return rename[w]
                 return w
 
@@ -110,4 +144,6 @@ def main(root):
 
 
 if __name__ == "__main__":
-    main(sys.argv[1] if len(sys.argv) > 1 else ".")
+    where = sys.argv[1] if len(sys.argv) > 1 else "."
+    main(where)
+    inner(where)

@@ -1,151 +1,85 @@
 #!/usr/bin/env python3
-"""Makes docs/made/TRIED.md: which wrong programs had which public function refused.
+"""Makes docs/made/TRIED.md: which wrong programs were tried, and what refuses each.
 
-Run it after `rt must-fail` or `rt ci`, from anywhere: python3 tools/tried.py [ROOT]. It reads the edits
-in crates/CRATE/must-fail/LABEL.edit and what the prover said of each in target/must-fail/CRATE/LABEL/.log.
+Run it after `.ci/run`, from anywhere: python3 tools/tried.py [FILE]. It reads the edits in crates/CRATE/must-fail/ and
+the line that `rt ci` says of each, in FILE or else in target/ci.out, where `.ci/run` keeps all that it said.
 """
 import re
 import sys
 import textwrap
 from pathlib import Path
 
+ROOT = Path(__file__).resolve().parent.parent
+PAGE = ROOT / "docs" / "made" / "TRIED.md"
 WIDTH = 120
-ENOUGH = 2
 
 INTRODUCTION = """\
 # Wrong programs tried
 
-This page is made by `tools/tried.py` from the edits in `crates/*/must-fail` and what the prover said of each in
-`target/must-fail` (`rt must-fail`, then `python3 tools/tried.py`): change the edits, and not this page.
+This page is made by `tools/tried.py` from the edits in `crates/*/must-fail` and what the prover said of each
+(`.ci/run`, then `python3 tools/tried.py`): change the edits, and not this page.
 
-A name is that of a file in the crate's `must-fail/`. Its first line says what the wrong program does or, after
-`broken:`, the rule that does not hold in it. A function is refused where its own body or its definition is wrong, or a
-function of its crate on which it rests.
+A name is that of a file in the crate's `must-fail/`. After it stands what the wrong program does or, after `broken:`,
+the rule that does not hold in it; then what the prover refused first, a function and the goal that is left open or a lemma
+that is false, of the crate's own. More may be refused behind it.
 """
 
-BY_FILE = "By the file that is changed: here the prover refused a proof of the crate, and no public function."
+
+def meaning(edit):
+    """The comment on top of an edit."""
+    first = edit.read_text().splitlines()[0]
+    return first[1:].strip().rstrip(".") if first.startswith("#") else ""
 
 
-class Function:
-    def __init__(self, name, own_type, module, contract):
-        self.name, self.own_type, self.module, self.contract = name, own_type, module, contract
-        self.refused_by = []
-
-    def shown(self):
-        return f"{self.own_type}::{self.name}" if self.own_type else self.name
-
-    def is_called(self, path):
-        """Whether the prover's name, such as `table::step::look` or `call::Call::tick`, is this function's."""
-        if self.own_type:
-            return path[-2:] == [self.own_type, self.name]
-        return path[1:] == self.module + [self.name]
-
-
-def public_functions(crate):
-    """The public functions of a crate; a program has none."""
-    source = crate / "src"
-    if (source / "main.rt").exists():
-        return []
-    found = []
-    for file in sorted(source.rglob("*.rt")):
-        module = [part for part in file.relative_to(source).with_suffix("").parts if part not in ("lib", "mod")]
-        own_type = head = None
-        for line in file.read_text().splitlines():
-            block = re.match(r"impl(?:<.*?>)? (\w+)", line)
-            start = re.match(r"\s*pub fn (\w+)", line)
-            if block:
-                own_type = block[1]
-            elif line == "}":
-                own_type = None
-            if start:
-                head = Function(start[1], own_type, module, False)
-                found.append(head)
-            if head and re.search(r"\bensures\b", line):
-                head.contract = True
-            if line.rstrip().endswith("{"):
-                head = None
-    return found
+def function_at(crate, file, line):
+    """The function of a source file that a line is of; an attribute stands before its name, a clause after it."""
+    name = None
+    lines = (crate / file).read_text().splitlines()
+    while lines[line - 1].lstrip().startswith("#["):
+        line += 1
+    for number, text in enumerate(lines, 1):
+        start = re.match(r"\s*(?:pub(?:\(\w+\))? )?(?:const )?fn (\w+)", text)
+        if start and (number <= line or name is None):
+            name = start[1]
+        if number >= line and name:
+            break
+    return name or file
 
 
-def refused_paths(log):
-    """The functions that the prover did not prove, each as the parts of its name."""
-    lines = re.findall(r"^fn (\S+): (?:not proved|no proof)", log, re.MULTILINE)
-    return [path.split("::") for path in lines]
-
-
-def changed_files(edit):
-    return re.findall(r"^file: (\S+)", edit.read_text(), re.MULTILINE)
-
-
-def item(name, labels, remark=""):
-    text = f"- `{name}`{remark}: " + (", ".join(labels) or "none")
-    return textwrap.fill(text, WIDTH, subsequent_indent="  ", break_long_words=False, break_on_hyphens=False)
-
-
-def read_crate(crate, logs):
-    """The public functions with what refused them, the files with what was refused elsewhere, and what went wrong."""
-    functions = public_functions(crate)
-    elsewhere, unheard, accepted = {}, [], []
-    for edit in sorted((crate / "must-fail").glob("*.edit")):
-        log = logs / crate.name / edit.stem / ".log"
-        text = log.read_text(errors="replace") if log.exists() else ""
-        verdict = re.search(r"^logic=(\S+)", text, re.MULTILINE)
-        if not verdict:
-            unheard.append(edit.stem)
-            continue
-        if verdict[1] != "not-proved":
-            accepted.append(edit.stem)
-            continue
-        paths = refused_paths(text)
-        met = [f for f in functions if any(f.is_called(path) for path in paths)]
-        for function in met:
-            function.refused_by.append(edit.stem)
-        if not met:
-            files = changed_files(edit)
-            for file in [f for f in files if f.startswith("specs/")] or files:
-                labels = elsewhere.setdefault(file, [])
-                if edit.stem not in labels:
-                    labels.append(edit.stem)
-    return functions, elsewhere, unheard, accepted
-
-
-def page(root):
-    logs = root / "target" / "must-fail"
-    crates = {c.name: read_crate(c, logs) for c in sorted((root / "crates").iterdir()) if c.is_dir()}
-
-    few, unheard, accepted, tried, stated = [], [], [], [], []
-    for name, (functions, elsewhere, no_verdict, not_refused) in crates.items():
-        shown = [f for f in functions if f.contract or f.refused_by]
-        if shown:
-            tried += [f"### `{name}`", ""]
-            for f in shown:
-                tried.append(item(f.shown(), f.refused_by, "" if f.contract else " (no contract)"))
-                if f.contract and len(f.refused_by) < ENOUGH:
-                    few.append(item(f"{name}: {f.shown()}", f.refused_by))
-            tried.append("")
-        if elsewhere:
-            stated += [f"### `{name}`", ""] + [item(file, elsewhere[file]) for file in sorted(elsewhere)] + [""]
-        unheard += [item(name, no_verdict)] if no_verdict else []
-        accepted += [item(name, not_refused)] if not_refused else []
-
-    lines = [INTRODUCTION]
-    for heading, items in (
-        ("Functions with fewer than two", few),
-        ("Not refused", accepted),
-        ("No verdict: without a log, or with one that breaks off", unheard),
-    ):
-        if items:
-            lines += [f"## {heading}", ""] + items + [""]
-    lines += ["## Public functions", ""] + tried
-    lines += ["## Statements", "", BY_FILE, ""] + stated
-    return "\n".join(lines).rstrip("\n") + "\n"
+def refusal(crate, said):
+    """What refuses an edit, in the words of the page."""
+    place = re.search(r"(?:\./)?((?:src|proofs|specs)/\S+?):(\d+):\d+: ?(?:error: )?(.*)", said)
+    if not place:
+        return said
+    file, line, text = place[1], int(place[2]), place[3]
+    goal = re.search(r"\(`([^`]+)`\)", text) if file.startswith("src/") else re.match(r"`([^`]+)`", text)
+    of = file[len("proofs/") :].rsplit("/", 1)[0].replace("/", "::")
+    if file.startswith("src/"):
+        of = function_at(crate, file, line)
+    elif not file.endswith(("Answers.antt", "Invariants.antt")):
+        of = file.rsplit("/", 1)[1].removesuffix(".antt")
+    return f"`{of}`, `{goal[1]}`" if goal else f"`{of}`"
 
 
 def main():
-    root = Path(sys.argv[1]) if len(sys.argv) > 1 else Path(__file__).resolve().parent.parent
-    text = page(root)
-    (root / "docs" / "made" / "TRIED.md").write_text(text)
-    print(f"docs/made/TRIED.md: {len(text.splitlines())} lines")
+    out = Path(sys.argv[1]) if len(sys.argv) > 1 else ROOT / "target" / "ci.out"
+    said = dict(re.findall(r"^rt: must-fail (\S+)\.edit: (.*)$", out.read_text(errors="replace"), re.MULTILINE))
+    lines, count = [INTRODUCTION], 0
+    for crate in sorted((ROOT / "crates").iterdir()):
+        edits = sorted((crate / "must-fail").glob("*.edit"))
+        if edits:
+            lines += [f"## `{crate.name}`: {len(edits)}", ""]
+        for edit in edits:
+            told = said.get(f"{crate.name}/{edit.stem}", "not tried")
+            how = refusal(crate, told) if told.startswith("refused") else told
+            text = f"- {edit.stem}: {meaning(edit)}. {how}"
+            lines += textwrap.wrap(text, WIDTH, subsequent_indent="  ", break_long_words=False, break_on_hyphens=False)
+            count += 1
+        if edits:
+            lines.append("")
+    PAGE.parent.mkdir(exist_ok=True)
+    PAGE.write_text("\n".join(lines).rstrip("\n") + "\n")
+    print(f"docs/made/TRIED.md: {count} wrong programs")
 
 
 if __name__ == "__main__":
