@@ -2,7 +2,8 @@
 mod show;
 
 use crate::annex_bodies::show::{reads_body, writes};
-use facility::{Component, Refusal, Service, Wish};
+use facility::{Component, Refusal, Wish};
+use rights::Service;
 
 // B.1: a request, for each service, preferred and required.
 pub(crate) fn requests(page: &mut [u8; 4096]) {

@@ -2,7 +2,6 @@
 mod show;
 
 use crate::annex_messages::show::{both, reads, writes_message, writes_nowhere};
-use cause::Cause;
 use facility::Component;
 use message_fields::{Facilities, Header, Message, Single, Width};
 use message_types::Kind;
@@ -216,30 +215,30 @@ pub(crate) fn levels(page: &mut [u8; 4096]) {
     );
 }
 
-// The first Cause, and the first three Facility elements that can be read.
+// The first Option<u8>, and the first three Facility elements that can be read.
 pub(crate) fn first_ones(page: &mut [u8; 4096]) {
     reads(
         page,
-        b"second Cause",
+        b"second Option<u8>",
         b"\x08\x01\x05\x45\x08\x02\x82\x90\x08\x02\x82\x9F",
         b"0 45 0 5 16 - - -",
     );
     reads(
         page,
-        b"unreadable first Cause",
+        b"unreadable first Option<u8>",
         b"\x08\x01\x05\x45\x08\x01\x82\x08\x02\x82\x9F",
         b"0 45 0 5 - - - -",
     );
     reads(
         page,
-        b"Cause with an extension",
+        b"Option<u8> with an extension",
         b"\x08\x01\x05\x45\x08\x03\x02\x80\x90",
         b"0 45 0 5 16 - - -",
     );
     // The octet after the location octet and one extension, whatever that extension's top bit says.
     reads(
         page,
-        b"Cause with two extensions",
+        b"Option<u8> with two extensions",
         b"\x08\x01\x05\x45\x08\x04\x02\x00\x91\x90",
         b"0 45 0 5 17 - - -",
     );
@@ -267,7 +266,7 @@ fn given(kind: Kind, reference: u16, single: Single, f: Facilities) -> Message {
     Message {
         header: header,
         single: single,
-        cause: Cause::Absent,
+        cause: None,
         facility: f,
     }
 }

@@ -1,12 +1,11 @@
 -- What the fates of the services make of a call.
+use Rattle.services.specs.declared.ByService.{ByService}
+use Rattle.sent.specs.declared.side.BySide.{BySide}
+use Rattle.flow_meter.specs.declared.Meter.{Meter}
 use Rattle.std.specs.Prelude.{Bool, true, false, ◌||◌, ℕ}
-use Rattle.services.specs.declared.Facilities.{Facilities}
 use Rattle.answering_rules.specs.declared.Fate.{Fate}
-use Rattle.answering_rules.specs.declared.Fates.{Fates}
 use Rattle.services.specs.declared.Said.{Said}
 use Rattle.services.specs.declared.Standing.{Standing}
-use Rattle.services.specs.declared.Standings.{Standings}
-use Rattle.flow_meter.specs.declared.call_meters.Meters.{Meters}
 use Rattle.flow_meter.specs.CallMeters.{grants_of}
 
 -- How a service stands after its answer. Where one failed the call is cleared and this is not asked: Failed is here
@@ -38,10 +37,10 @@ failure_of Fate.Closed = false
 failure_of Fate.Failed = true
 
 -- "Required and not accepted", whichever service it is
-unfoldable pub failed_of : Fates → Bool
+unfoldable pub failed_of : ByService Fate → Bool
 failed_of f = (failure_of f.one || failure_of f.two) || failure_of f.three
 
-unfoldable pub settles_of : Standings → Fates → Standings
+unfoldable pub settles_of : ByService Standing → ByService Fate → ByService Standing
 settles_of s f =
     record {
       one = settled_of s.one f.one;
@@ -49,14 +48,14 @@ settles_of s f =
       three = settled_of s.three f.three;
     }
 
-unfoldable pub tells_of : Fates → Facilities
+unfoldable pub tells_of : ByService Fate → ByService Said
 tells_of f = record { one = told_of f.one; two = told_of f.two; three = told_of f.three }
 
-unfoldable pub declines_of : Fates → Facilities
+unfoldable pub declines_of : ByService Fate → ByService Said
 declines_of f = record { one = declined_of f.one; two = declined_of f.two; three = declined_of f.three }
 
 -- "Accepted: in force", which for service 3 gives each direction its credit
-abbrev pub in_force_after_of : Meters → ℕ → Fate → Meters
+abbrev pub in_force_after_of : BySide Meter → ℕ → Fate → BySide Meter
 in_force_after_of m burst Fate.Kept = m
 in_force_after_of m burst Fate.Accepted = grants_of m burst
 in_force_after_of m burst Fate.Closed = m

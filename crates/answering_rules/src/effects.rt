@@ -2,9 +2,11 @@
 ghost use Rattle.std.specs.Prelude.{◌≡◌};
 ghost use Rattle.answering_rules.specs.Effects.{settled_of, told_of, declined_of, failure_of, failed_of, settles_of, tells_of, declines_of, in_force_after_of};
 
-use crate::{Fate, Fates};
-use flow_meter::call_meters::{Meters, grants};
-use services::{Facilities, Said, Standing, Standings};
+use crate::Fate;
+use flow_meter::Meter;
+use flow_meter::call_meters::grants;
+use sent::side::BySide;
+use services::{ByService, Said, Standing};
 
 // How a service stands after its answer. Where one failed the call is cleared, and nobody asks this.
 fn settled(s: Standing, f: Fate) -> Standing
@@ -49,7 +51,7 @@ fn failure(f: Fate) -> bool
 
 // Whether a required service failed, which clears the call.
 #[tactic(auto, unfolding(crate::specs::Effects::failed_of))]
-pub fn failed(f: Fates) -> bool
+pub fn failed(f: ByService<Fate>) -> bool
     ensures { result ≡ failed_of f }
 {
     let one = f.one;
@@ -59,7 +61,7 @@ pub fn failed(f: Fates) -> bool
 }
 
 #[tactic(auto, unfolding(crate::specs::Effects::settles_of))]
-pub fn settles(s: Standings, f: Fates) -> Standings
+pub fn settles(s: ByService<Standing>, f: ByService<Fate>) -> ByService<Standing>
     ensures { result ≡ settles_of s f }
 {
     let one = s.one;
@@ -68,7 +70,7 @@ pub fn settles(s: Standings, f: Fates) -> Standings
     let first = f.one;
     let second = f.two;
     let third = f.three;
-    Standings {
+    ByService {
         one: settled(one, first),
         two: settled(two, second),
         three: settled(three, third),
@@ -76,13 +78,13 @@ pub fn settles(s: Standings, f: Fates) -> Standings
 }
 
 #[tactic(auto, unfolding(crate::specs::Effects::tells_of))]
-pub fn tells(f: Fates) -> Facilities
+pub fn tells(f: ByService<Fate>) -> ByService<Said>
     ensures { result ≡ tells_of f }
 {
     let one = f.one;
     let two = f.two;
     let three = f.three;
-    Facilities {
+    ByService {
         one: told(one),
         two: told(two),
         three: told(three),
@@ -90,13 +92,13 @@ pub fn tells(f: Fates) -> Facilities
 }
 
 #[tactic(auto, unfolding(crate::specs::Effects::declines_of))]
-pub fn declines(f: Fates) -> Facilities
+pub fn declines(f: ByService<Fate>) -> ByService<Said>
     ensures { result ≡ declines_of f }
 {
     let one = f.one;
     let two = f.two;
     let three = f.three;
-    Facilities {
+    ByService {
         one: declined(one),
         two: declined(two),
         three: declined(three),
@@ -104,7 +106,7 @@ pub fn declines(f: Fates) -> Facilities
 }
 
 // Service 3 comes into force where it is accepted.
-pub fn in_force_after(m: Meters, burst: u16, three: Fate) -> Meters
+pub fn in_force_after(m: BySide<Meter>, burst: u16, three: Fate) -> BySide<Meter>
     ensures { result ≡ in_force_after_of m burst three }
 {
     match three {

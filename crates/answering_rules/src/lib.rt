@@ -4,7 +4,7 @@
 ghost use Rattle.std.specs.Prelude.{◌≡◌};
 ghost use Rattle.answering_rules.specs.Fates.{decided_of, alerting_fates_of, connect_fates_of};
 
-use services::{Answers, Given, Standing, Standings};
+use services::{ByService, Given, Standing};
 
 pub mod effects;
 
@@ -15,13 +15,6 @@ pub enum Fate {
     Accepted,
     Closed,
     Failed,
-}
-
-#[derive(Clone, Copy)]
-pub struct Fates {
-    pub one: Fate,
-    pub two: Fate,
-    pub three: Fate,
 }
 
 // What an answer that is due makes of a service. One that is not open keeps its standing, whatever is said of it.
@@ -45,16 +38,16 @@ fn decided(s: Standing, g: Given) -> Fate
     }
 }
 
-// Answers to services 1 and 2 are due at ALERTING.
+// ByService<Given> to services 1 and 2 are due at ALERTING.
 #[tactic(auto, unfolding(crate::specs::Fates::alerting_fates_of))]
-pub fn alerting_fates(s: Standings, a: Answers) -> Fates
+pub fn alerting_fates(s: ByService<Standing>, a: ByService<Given>) -> ByService<Fate>
     ensures { result ≡ alerting_fates_of s a }
 {
     let one = s.one;
     let two = s.two;
     let first = a.one;
     let second = a.two;
-    Fates {
+    ByService {
         one: decided(one, first),
         two: decided(two, second),
         three: Fate::Kept,
@@ -64,7 +57,7 @@ pub fn alerting_fates(s: Standings, a: Answers) -> Fates
 // The answer to service 3 is due at CONNECT; without ALERTING the one to service 1 too, and service 2 counts as
 // unanswered.
 #[tactic(auto, unfolding(crate::specs::Fates::connect_fates_of))]
-pub fn connect_fates(alerted: bool, s: Standings, a: Answers) -> Fates
+pub fn connect_fates(alerted: bool, s: ByService<Standing>, a: ByService<Given>) -> ByService<Fate>
     ensures { result ≡ connect_fates_of alerted s a }
 {
     let one = s.one;
@@ -73,13 +66,13 @@ pub fn connect_fates(alerted: bool, s: Standings, a: Answers) -> Fates
     let first = a.one;
     let third = a.three;
     if alerted {
-        Fates {
+        ByService {
             one: Fate::Kept,
             two: Fate::Kept,
             three: decided(three, third),
         }
     } else {
-        Fates {
+        ByService {
             one: decided(one, first),
             two: decided(two, Given::Silent),
             three: decided(three, third),

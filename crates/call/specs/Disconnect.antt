@@ -1,14 +1,13 @@
 -- DISCONNECT and RELEASE COMPLETE.
+use Rattle.std.specs.Prelude.{Some, None}
+use Rattle.services.specs.declared.ByService.{ByService}
+use Rattle.services.specs.declared.Given.{Given}
 use Rattle.std.specs.Prelude.{ℕ, List, true, leb}
-use Rattle.cause.specs.declared.Cause.{Cause}
 use Rattle.user_element.specs.declared.Note.{Note}
 use Rattle.user_element.specs.declared.Seen.{Seen}
-use Rattle.services.specs.declared.Answers.{Answers}
 use Rattle.services.specs.declared.Standing.{Standing}
 use Rattle.answer.specs.declared.Answer.{Answer}
 use Rattle.message_types.specs.declared.Kind.{Kind}
-use Rattle.sent.specs.declared.Sent.{Sent}
-use Rattle.sent.specs.declared.dispatch.Carrier.{Carrier}
 use Rattle.phases.specs.declared.Phase.{Phase}
 use Rattle.sent.specs.declared.side.Side.{Side}
 use Rattle.call.specs.declared.Call.{Call}
@@ -30,19 +29,19 @@ closed_call_of c one =
     renewed_of c Phase.Clearing (record { one = one; two = c.standings.two; three = c.standings.three }) c.asking c.meters
 
 -- service 1 after the answers that count: "an acceptance of open service 1 counts first"
-abbrev pub one_after_of : Call → Answers → Standing
+abbrev pub one_after_of : Call → ByService Given → Standing
 one_after_of c a = closing_standing_of c.standings.one a.one
 
 -- "Passed on with cause and, if service 1 is in force, the element; Clearing."
-unfoldable pub passed_on_of : Call → Side → ℕ → Answers → Seen → Reply
+unfoldable pub passed_on_of : Call → Side → ℕ → ByService Given → Seen → Reply
 passed_on_of c side cause a seen =
-    reply_of side (closed_call_of c (one_after_of c a)) Answer.Taken (noted_of seen (in_force_of (one_after_of c a))) Sent.Absent
-    (saying_of Kind.Disconnect (Cause.Value cause) (closing_facilities_of c.standings c.asking.calling a)
+    reply_of side (closed_call_of c (one_after_of c a)) Answer.Taken (noted_of seen (in_force_of (one_after_of c a))) None
+    (saying_of Kind.Disconnect (Some cause) (closing_facilities_of c.standings c.asking.calling a)
     (goes_out_of seen (in_force_of (one_after_of c a))))
     (by_one_of (goes_out_of seen (in_force_of (one_after_of c a))))
 
 -- "DISCONNECT (up)." Number 24: "DISCONNECT, cause over 127".
-unfoldable pub disconnect_of : Call → Side → ℕ → Answers → List ℕ → Reply
+unfoldable pub disconnect_of : Call → Side → ℕ → ByService Given → List ℕ → Reply
 disconnect_of c side cause a e =
     heard_of c (bar_of c (up_of c.phase) (leb cause greatest_cause))
     (passed_on_of c side cause (heard_answers_of side a) (seen_of e c.rights.limit))
@@ -50,7 +49,7 @@ disconnect_of c side cause a e =
 -- "Passed on bare; Ended."
 unfoldable pub ends_of : Call → Side → Reply
 ends_of c side =
-    reply_of side (in_phase_of c Phase.Ended) Answer.Taken Note.Clear Sent.Absent (bare_of Kind.ReleaseComplete Cause.Absent) Carrier.Nobody
+    reply_of side (in_phase_of c Phase.Ended) Answer.Taken Note.Clear None (bare_of Kind.ReleaseComplete None) None
 
 -- "RELEASE COMPLETE (up, Clearing)."
 unfoldable pub release_complete_of : Call → Side → Reply

@@ -1,9 +1,9 @@
 -- FACILITY: service 3 while connected.
+use Rattle.std.specs.Prelude.{None}
 use Rattle.std.specs.Prelude.{true, cond}
 use Rattle.user_element.specs.declared.Note.{Note}
 use Rattle.answer.specs.declared.Answer.{Answer}
 use Rattle.facility_rules.specs.declared.What.{What}
-use Rattle.sent.specs.declared.dispatch.Carrier.{Carrier}
 use Rattle.sent.specs.declared.side.Side.{Side}
 use Rattle.call.specs.declared.Call.{Call}
 use Rattle.call.specs.declared.reply.Reply.{Reply}
@@ -30,7 +30,7 @@ facility_call_of c side what =
 unfoldable pub passes_facility_of : Call → Side → What → Answer → Reply
 passes_facility_of c side what verdict =
     reply_of side (cond (taken_of verdict) (facility_call_of c side what) c) verdict Note.Clear (to_asker_of verdict) (to_other_of verdict what)
-    Carrier.Nobody
+    None
 
 -- "FACILITY (Active)."
 unfoldable pub facility_of : Call → Side → What → Reply

@@ -1,4 +1,6 @@
 -- USER INFORMATION.
+use Rattle.sent.specs.declared.side.BySide.{BySide}
+use Rattle.flow_meter.specs.declared.Meter.{Meter}
 use Rattle.std.specs.Prelude.{ℕ, List, Bool, true, cond}
 use Rattle.flow_meter.specs.declared.passage.Passage.{Passage}
 use Rattle.user_element.specs.declared.Note.{Note}
@@ -6,7 +8,6 @@ use Rattle.user_element.specs.declared.Seen.{Seen}
 use Rattle.answer.specs.declared.Answer.{Answer}
 use Rattle.sent.specs.declared.side.Side.{Side}
 use Rattle.call.specs.declared.Call.{Call}
-use Rattle.flow_meter.specs.declared.call_meters.Meters.{Meters}
 use Rattle.call.specs.declared.reply.Reply.{Reply}
 use Rattle.services.specs.Standing.{in_force_of}
 use Rattle.user_element.specs.Element.{seen_of, whole_of, noted_of}
@@ -18,7 +19,7 @@ use Rattle.call.specs.Reply.{bar_of, refused_of, heard_of, reply_of}
 use Rattle.flow_meter.specs.CallMeters.{meter_of, spent_of}
 
 -- the record with other meters
-unfoldable pub meters_of : Call → Meters → Call
+unfoldable pub meters_of : Call → BySide Meter → Call
 meters_of c m = renewed_of c c.phase c.standings c.asking m
 
 -- what a side's message meets in its meter

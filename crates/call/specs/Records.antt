@@ -1,16 +1,18 @@
 -- The record of a call: as it is opened, and made anew from the one before it.
+use Rattle.std.specs.Prelude.{Bool}
+use Rattle.services.specs.declared.ByService.{ByService}
+use Rattle.services.specs.declared.Standing.{Standing}
+use Rattle.sent.specs.declared.side.BySide.{BySide}
+use Rattle.flow_meter.specs.declared.Meter.{Meter}
 use Rattle.std.specs.Prelude.{ℕ}
 use Rattle.call.specs.declared.Call.{Call}
-use Rattle.facility_rules.specs.declared.Asking.{Asking}
-use Rattle.flow_meter.specs.declared.call_meters.Meters.{Meters}
 use Rattle.phases.specs.declared.Phase.{Phase}
 use Rattle.rights.specs.declared.Rights.{Rights}
-use Rattle.services.specs.declared.Standings.{Standings}
 use Rattle.facility_rules.specs.Asking.{nobody_asks}
 use Rattle.flow_meter.specs.CallMeters.{empty_meters}
 
 -- nobody has asked for anything yet, and the meters are empty
-abbrev pub opened_of : ℕ → Rights → Phase → Standings → Call
+abbrev pub opened_of : ℕ → Rights → Phase → ByService Standing → Call
 opened_of reference rights phase standings =
     record {
       reference = reference;
@@ -22,7 +24,7 @@ opened_of reference rights phase standings =
     }
 
 -- an event may change these four parts; all else is kept
-abbrev pub renewed_of : Call → Phase → Standings → Asking → Meters → Call
+abbrev pub renewed_of : Call → Phase → ByService Standing → BySide Bool → BySide Meter → Call
 renewed_of c phase standings asking meters =
     record {
       reference = c.reference;

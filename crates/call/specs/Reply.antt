@@ -1,9 +1,10 @@
 -- The tests that come first, 25, 11 and 24, and replies.
+use Rattle.std.specs.Prelude.{Option}
+use Rattle.sent.specs.declared.Message.{Message}
+use Rattle.rights.specs.declared.Service.{Service}
 use Rattle.std.specs.Prelude.{Bool, cond}
 use Rattle.user_element.specs.declared.Note.{Note}
 use Rattle.answer.specs.declared.Answer.{Answer}
-use Rattle.sent.specs.declared.Sent.{Sent}
-use Rattle.sent.specs.declared.dispatch.Carrier.{Carrier}
 use Rattle.sent.specs.declared.side.Side.{Side}
 use Rattle.call.specs.declared.Call.{Call}
 use Rattle.call.specs.declared.reply.Reply.{Reply}
@@ -23,11 +24,11 @@ refused_of c a note = record { call = c; answer = a; note = note; dispatch = not
 unfoldable pub heard_of : Call → Answer → Reply → Reply
 heard_of c bar r = cond (taken_of bar) r (refused_of c bar Note.Clear)
 
-abbrev pub pick_of : Side → Sent → Sent → Sent
+abbrev pub pick_of : Side → Option Message → Option Message → Option Message
 pick_of Side.Calling calling called = calling
 pick_of Side.Called calling called = called
 
 -- a reply to one side's event: back goes to that side, on to the other
-unfoldable pub reply_of : Side → Call → Answer → Note → Sent → Sent → Carrier → Reply
+unfoldable pub reply_of : Side → Call → Answer → Note → Option Message → Option Message → Option Service → Reply
 reply_of side c a note back on carrier =
     record { call = c; answer = a; note = note; dispatch = to_users_of (pick_of side back on) (pick_of side on back) carrier }

@@ -1,4 +1,6 @@
 -- A fresh record, and number 25 for one record.
+use Rattle.sent.specs.declared.side.BySide.{BySide}
+use Rattle.flow_meter.specs.declared.Meter.{Meter}
 use Rattle.std.specs.Prelude.{ℕ, Bool, true, cond, ◌&&◌}
 use Rattle.phases.specs.declared.Phase.{Phase}
 use Rattle.call.specs.declared.Call.{Call}
@@ -6,7 +8,6 @@ use Rattle.rights.specs.declared.Rights.{Rights}
 use Rattle.rights.specs.Rights.{no_rights, rights_fit_of, reference_fits_of}
 use Rattle.phases.specs.Phase.{live_of}
 use Rattle.flow_meter.specs.Meter.{meter_fits_of}
-use Rattle.flow_meter.specs.declared.call_meters.Meters.{Meters}
 use Rattle.services.specs.Standing.{no_services}
 use Rattle.call.specs.Records.{opened_of, renewed_of}
 
@@ -15,7 +16,7 @@ unfoldable pub fresh_call : Call
 fresh_call = opened_of 0 no_rights Phase.Fresh no_services
 
 -- "a live record or meter with a field out of range, credit over X or count over 2"
-abbrev pub ranges_fit : ℕ → Rights → Meters → Bool
+abbrev pub ranges_fit : ℕ → Rights → BySide Meter → Bool
 ranges_fit reference rights m =
     ((reference_fits_of reference && rights_fit_of rights) && meter_fits_of m.calling rights.burst)
     && meter_fits_of m.called rights.burst

@@ -1,8 +1,8 @@
 -- The tick.
+use Rattle.std.specs.Prelude.{None}
 use Rattle.std.specs.Prelude.{Bool, true}
 use Rattle.user_element.specs.declared.Note.{Note}
 use Rattle.answer.specs.declared.Answer.{Answer}
-use Rattle.sent.specs.declared.dispatch.Carrier.{Carrier}
 use Rattle.call.specs.declared.Call.{Call}
 use Rattle.call.specs.declared.reply.Reply.{Reply}
 use Rattle.services.specs.Standing.{in_force_of}
@@ -23,7 +23,7 @@ passes_tick_of c =
       call = meters_of c (refills_of c.meters c.rights (runs_of c));
       answer = Answer.Taken;
       note = Note.Clear;
-      dispatch = to_users_of (ready_of c.meters.calling (runs_of c)) (ready_of c.meters.called (runs_of c)) Carrier.Nobody;
+      dispatch = to_users_of (ready_of c.meters.calling (runs_of c)) (ready_of c.meters.called (runs_of c)) None;
     }
 
 -- "A tick in any live phase is taken"

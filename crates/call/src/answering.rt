@@ -8,18 +8,18 @@ use crate::reply::{Reply, heard};
 use crate::sound::in_phase;
 use answer::Answer;
 use answering_rules::effects::{declines, failed, in_force_after, settles, tells};
-use answering_rules::{Fates, alerting_fates, connect_fates};
-use cause::{CLEARED, Cause, NOT_ACCEPTED};
+use answering_rules::{Fate, alerting_fates, connect_fates};
+use cause::{CLEARED, NOT_ACCEPTED};
 use message_types::Kind;
 use phases::{Phase, is_connectable, is_requested};
-use sent::dispatch::{Carrier, by_one, to_users};
-use sent::{Sent, bare, saying};
-use services::{Answers, in_force};
+use sent::dispatch::{by_one, to_users};
+use sent::{bare, saying};
+use services::{ByService, Given, in_force};
 use user_element::{Seen, goes_out, look, noted};
 
 // The message goes on to the caller with the answers, and the call enters its next phase.
 #[tactic(auto, unfolding(crate::specs::Answering::answered_call_of, crate::specs::Answering::goes_on_of))]
-fn goes_on(c: Call, kind: Kind, next: Phase, fates: Fates, seen: Seen) -> Reply
+fn goes_on(c: Call, kind: Kind, next: Phase, fates: ByService<Fate>, seen: Seen) -> Reply
     ensures { result ≡ goes_on_of c kind next fates seen }
 {
     let rights = c.rights;
@@ -41,17 +41,13 @@ fn goes_on(c: Call, kind: Kind, next: Phase, fates: Fates, seen: Seen) -> Reply
         ),
         answer: Answer::Taken,
         note: noted(seen, carried),
-        dispatch: to_users(
-            saying(kind, Cause::Absent, tells(fates), goes),
-            Sent::Absent,
-            by_one(goes),
-        ),
+        dispatch: to_users(saying(kind, None, tells(fates), goes), None, by_one(goes)),
     }
 }
 
 // A required service was not accepted: both users are cleared, and the element goes nowhere.
 #[tactic(auto, unfolding(crate::specs::Answering::clears_of))]
-fn clears(c: Call, fates: Fates, seen: Seen) -> Reply
+fn clears(c: Call, fates: ByService<Fate>, seen: Seen) -> Reply
     ensures { result ≡ clears_of c fates seen }
 {
     Reply {
@@ -59,21 +55,16 @@ fn clears(c: Call, fates: Fates, seen: Seen) -> Reply
         answer: Answer::Taken,
         note: noted(seen, false),
         dispatch: to_users(
-            saying(
-                Kind::Disconnect,
-                Cause::Value(NOT_ACCEPTED),
-                declines(fates),
-                false,
-            ),
-            bare(Kind::Disconnect, Cause::Value(CLEARED)),
-            Carrier::Nobody,
+            saying(Kind::Disconnect, Some(NOT_ACCEPTED), declines(fates), false),
+            bare(Kind::Disconnect, Some(CLEARED)),
+            None,
         ),
     }
 }
 
 // One message with answers: it goes on, unless a required service failed.
 #[tactic(auto, unfolding(crate::specs::Answering::answered_of))]
-fn answered(c: Call, kind: Kind, next: Phase, fates: Fates, element: &[u8]) -> Reply
+fn answered(c: Call, kind: Kind, next: Phase, fates: ByService<Fate>, element: &[u8]) -> Reply
     ensures { result ≡ answered_of c kind next fates element.now }
 {
     let rights = c.rights;
@@ -87,7 +78,7 @@ fn answered(c: Call, kind: Kind, next: Phase, fates: Fates, element: &[u8]) -> R
 
 impl Call {
     #[tactic(auto, unfolding(crate::specs::Answering::alerting_of))]
-    pub fn alerting(self, answers: Answers, element: &[u8]) -> Reply
+    pub fn alerting(self, answers: ByService<Given>, element: &[u8]) -> Reply
         ensures { result ≡ alerting_of self answers element.now }
     {
         let phase = self.phase;
@@ -98,7 +89,7 @@ impl Call {
     }
 
     #[tactic(auto, unfolding(crate::specs::Answering::connect_of))]
-    pub fn connect(self, answers: Answers, element: &[u8]) -> Reply
+    pub fn connect(self, answers: ByService<Given>, element: &[u8]) -> Reply
         ensures { result ≡ connect_of self answers element.now }
     {
         let phase = self.phase;

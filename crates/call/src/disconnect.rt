@@ -7,19 +7,19 @@ use crate::records::renewed;
 use crate::reply::{Reply, heard, reply_to};
 use crate::sound::in_phase;
 use answer::Answer;
-use cause::{Cause, GREATEST_CAUSE};
+use cause::GREATEST_CAUSE;
 use clearing_rules::{closing_facilities, closing_standing, heard_answers};
 use message_types::Kind;
 use phases::{Phase, is_live, is_up};
-use sent::dispatch::{Carrier, by_one};
+use sent::dispatch::by_one;
 use sent::side::Side;
-use sent::{Sent, bare, saying};
-use services::{Answers, Standings, in_force};
+use sent::{bare, saying};
+use services::{ByService, Given, in_force};
 use user_element::{Note, Seen, goes_out, look, noted};
 
 // `answers` are those that count. The record keeps what it had, but for service 1 accepted at the last moment.
 #[tactic(auto, unfolding(crate::specs::Disconnect::closed_call_of, crate::specs::Disconnect::passed_on_of))]
-fn passed_on(c: Call, side: Side, cause: u8, answers: Answers, seen: Seen) -> Reply
+fn passed_on(c: Call, side: Side, cause: u8, answers: ByService<Given>, seen: Seen) -> Reply
     ensures { result ≡ passed_on_of c side cause answers seen }
 {
     let standings = c.standings;
@@ -33,8 +33,8 @@ fn passed_on(c: Call, side: Side, cause: u8, answers: Answers, seen: Seen) -> Re
     let carried = in_force(next);
     let goes = goes_out(seen, carried);
     let said = closing_facilities(standings, asking.calling, answers);
-    let on = saying(Kind::Disconnect, Cause::Value(cause), said, goes);
-    let after = Standings {
+    let on = saying(Kind::Disconnect, Some(cause), said, goes);
+    let after = ByService {
         one: next,
         two: two,
         three: three,
@@ -45,7 +45,7 @@ fn passed_on(c: Call, side: Side, cause: u8, answers: Answers, seen: Seen) -> Re
         call,
         Answer::Taken,
         noted(seen, carried),
-        Sent::Absent,
+        None,
         on,
         by_one(goes),
     )
@@ -53,7 +53,13 @@ fn passed_on(c: Call, side: Side, cause: u8, answers: Answers, seen: Seen) -> Re
 
 impl Call {
     #[tactic(auto, unfolding(crate::specs::Disconnect::disconnect_of))]
-    pub fn disconnect(self, side: Side, cause: u8, answers: Answers, element: &[u8]) -> Reply
+    pub fn disconnect(
+        self,
+        side: Side,
+        cause: u8,
+        answers: ByService<Given>,
+        element: &[u8],
+    ) -> Reply
         ensures { result ≡ disconnect_of self side cause answers element.now }
     {
         let phase = self.phase;
@@ -69,17 +75,9 @@ impl Call {
         ensures { result ≡ release_complete_of self side }
     {
         let phase = self.phase;
-        let on = bare(Kind::ReleaseComplete, Cause::Absent);
+        let on = bare(Kind::ReleaseComplete, None);
         let call = in_phase(self, Phase::Ended);
-        let reply = reply_to(
-            side,
-            call,
-            Answer::Taken,
-            Note::Clear,
-            Sent::Absent,
-            on,
-            Carrier::Nobody,
-        );
+        let reply = reply_to(side, call, Answer::Taken, Note::Clear, None, on, None);
         heard(self, is_live(phase), true, reply)
     }
 }

@@ -10,9 +10,8 @@ use answer::{Answer, taken};
 use facility_rules::messages::{to_asker, to_other};
 use facility_rules::{What, facility_asking, facility_meters, facility_three, verdict};
 use phases::is_active;
-use sent::dispatch::Carrier;
 use sent::side::Side;
-use services::{Standings, in_force};
+use services::{ByService, in_force};
 use user_element::Note;
 
 // A refusal leaves the record as it was.
@@ -31,7 +30,7 @@ fn facility_call(c: Call, side: Side, what: What, answer: Answer) -> Call
     let one = standings.one;
     let two = standings.two;
     let three = standings.three;
-    let after = Standings {
+    let after = ByService {
         one: one,
         two: two,
         three: facility_three(three, what),
@@ -61,7 +60,7 @@ fn passes_facility(c: Call, side: Side, what: What) -> Reply
         Note::Clear,
         to_asker(answer),
         to_other(answer, what),
-        Carrier::Nobody,
+        None,
     )
 }
 

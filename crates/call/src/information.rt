@@ -5,16 +5,17 @@ ghost use Rattle.call.specs.Information.{meters_of, information_passage_of, carr
 use crate::Call;
 use crate::reply::{Reply, heard, refused, reply_to};
 use answer::Answer;
-use flow_meter::call_meters::{Meters, meter_of, spent};
+use flow_meter::Meter;
+use flow_meter::call_meters::{meter_of, spent};
 use information_rules::messages::{carrier_of, passage_answer, to_receiver, to_sender};
 use information_rules::served;
 use phases::is_talking;
-use sent::side::Side;
+use sent::side::{BySide, Side};
 use services::in_force;
 use user_element::{Note, Seen, look, noted, whole};
 
 #[tactic(auto, unfolding(crate::specs::Information::meters_of))]
-pub(crate) fn with_meters(mut c: Call, m: Meters) -> Call
+pub(crate) fn with_meters(mut c: Call, m: BySide<Meter>) -> Call
     ensures { result ≡ meters_of c m }
 {
     c.meters = m;

@@ -1,11 +1,11 @@
 // One call: its record, a method for each event, the step over any event, and the replies; numbers 11 to 18, 24, 25.
 #![tactic(auto)]
 
-use facility_rules::Asking;
-use flow_meter::call_meters::Meters;
+use flow_meter::Meter;
 use phases::Phase;
 use rights::Rights;
-use services::Standings;
+use sent::side::BySide;
+use services::{ByService, Standing};
 
 pub mod answering;
 pub mod disconnect;
@@ -23,7 +23,7 @@ pub struct Call {
     pub reference: u16,
     pub rights: Rights,
     pub phase: Phase,
-    pub standings: Standings,
-    pub asking: Asking,
-    pub meters: Meters,
+    pub standings: ByService<Standing>,
+    pub asking: BySide<bool>,
+    pub meters: BySide<Meter>,
 }

@@ -3,14 +3,21 @@ ghost use Rattle.std.specs.Prelude.{◌≡◌};
 ghost use Rattle.call.specs.Records.{opened_of, renewed_of};
 
 use crate::Call;
-use facility_rules::{Asking, nobody_asks};
-use flow_meter::call_meters::{Meters, empty_meters};
+use facility_rules::nobody_asks;
+use flow_meter::Meter;
+use flow_meter::call_meters::empty_meters;
 use phases::Phase;
 use rights::Rights;
-use services::Standings;
+use sent::side::BySide;
+use services::{ByService, Standing};
 
 // Nobody has asked for anything yet, and the meters are empty.
-pub(crate) fn opened(reference: u16, rights: Rights, phase: Phase, standings: Standings) -> Call
+pub(crate) fn opened(
+    reference: u16,
+    rights: Rights,
+    phase: Phase,
+    standings: ByService<Standing>,
+) -> Call
     ensures { result ≡ opened_of reference rights phase standings }
 {
     Call {
@@ -27,9 +34,9 @@ pub(crate) fn opened(reference: u16, rights: Rights, phase: Phase, standings: St
 pub(crate) fn renewed(
     c: Call,
     phase: Phase,
-    standings: Standings,
-    asking: Asking,
-    meters: Meters,
+    standings: ByService<Standing>,
+    asking: BySide<bool>,
+    meters: BySide<Meter>,
 ) -> Call
     ensures { result ≡ renewed_of c phase standings asking meters }
 {

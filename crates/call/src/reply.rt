@@ -4,8 +4,9 @@ ghost use Rattle.call.specs.Reply.{bar_of, refused_of, heard_of, pick_of, reply_
 
 use crate::Call;
 use answer::{Answer, first_bar, taken};
-use sent::Sent;
-use sent::dispatch::{Carrier, Dispatch, nothing_sent, to_users};
+use rights::Service;
+use sent::Message;
+use sent::dispatch::{Dispatch, nothing_sent, to_users};
 use sent::side::Side;
 use user_element::Note;
 
@@ -43,7 +44,7 @@ pub(crate) fn heard(c: Call, allowed: bool, ranged: bool, r: Reply) -> Reply
     }
 }
 
-fn pick(side: Side, calling: Sent, called: Sent) -> Sent
+fn pick(side: Side, calling: Option<Message>, called: Option<Message>) -> Option<Message>
     ensures { result ≡ pick_of side calling called }
 {
     match side {
@@ -59,9 +60,9 @@ pub(crate) fn reply_to(
     c: Call,
     a: Answer,
     note: Note,
-    back: Sent,
-    on: Sent,
-    carrier: Carrier,
+    back: Option<Message>,
+    on: Option<Message>,
+    carrier: Option<Service>,
 ) -> Reply
     ensures { result ≡ reply_of side c a note back on carrier }
 {

@@ -8,12 +8,12 @@ use crate::reply::{Reply, heard};
 use answer::Answer;
 use phases::is_fresh;
 use rights::{Rights, reference_fits, rights_fit};
-use services::Requests;
+use services::{ByService, Request};
 use setup_rules::opens;
 use user_element::{Seen, look};
 
 #[tactic(auto, unfolding(crate::specs::Setup::proceeds_of))]
-fn proceeds(reference: u16, rights: Rights, requests: Requests, seen: Seen) -> Reply
+fn proceeds(reference: u16, rights: Rights, requests: ByService<Request>, seen: Seen) -> Reply
     ensures { result ≡ proceeds_of reference rights requests seen }
 {
     let opening = opens(rights, requests, seen);
@@ -31,7 +31,13 @@ fn proceeds(reference: u16, rights: Rights, requests: Requests, seen: Seen) -> R
 
 impl Call {
     #[tactic(auto, unfolding(crate::specs::Setup::setup_of))]
-    pub fn setup(self, reference: u16, rights: Rights, requests: Requests, element: &[u8]) -> Reply
+    pub fn setup(
+        self,
+        reference: u16,
+        rights: Rights,
+        requests: ByService<Request>,
+        element: &[u8],
+    ) -> Reply
         ensures { result ≡ setup_of self reference rights requests element.now }
     {
         let phase = self.phase;

@@ -5,10 +5,10 @@ ghost use Rattle.phases.specs.Phase.{live_of};
 
 use crate::Call;
 use crate::records::{opened, renewed};
-use flow_meter::call_meters::Meters;
-use flow_meter::meter_fits;
+use flow_meter::{Meter, meter_fits};
 use phases::{Phase, is_live};
 use rights::{Rights, no_rights, reference_fits, rights_fit};
+use sent::side::BySide;
 use services::no_services;
 
 // The record keeps what it had: only its phase changes.
@@ -23,7 +23,7 @@ pub(crate) fn in_phase(c: Call, p: Phase) -> Call
 }
 
 // Whether what a live record holds is in range, both meters included.
-fn ranges_fit(reference: u16, rights: Rights, m: Meters) -> bool
+fn ranges_fit(reference: u16, rights: Rights, m: BySide<Meter>) -> bool
     ensures { result ≡ ranges_fit reference rights m }
 {
     reference_fits(reference)

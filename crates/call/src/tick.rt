@@ -9,7 +9,7 @@ use answer::Answer;
 use flow_meter::call_meters::{ready, refills};
 use information_rules::serves_three;
 use phases::is_live;
-use sent::dispatch::{Carrier, to_users};
+use sent::dispatch::to_users;
 use services::in_force;
 use user_element::Note;
 
@@ -29,7 +29,7 @@ fn passes_tick(c: Call) -> Reply
         call: with_meters(c, refills(meters, rights, runs)),
         answer: Answer::Taken,
         note: Note::Clear,
-        dispatch: to_users(ready(calling, runs), ready(called, runs), Carrier::Nobody),
+        dispatch: to_users(ready(calling, runs), ready(called, runs), None),
     }
 }
 

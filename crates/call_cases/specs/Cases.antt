@@ -1,13 +1,13 @@
 -- A run of a call, the event that follows it and what it gives, as rows of a table; and what such rows are made of.
+use Rattle.std.specs.Prelude.{Option, Some, None}
+use Rattle.sent.specs.declared.Message.{Message}
+use Rattle.services.specs.declared.ByService.{ByService}
 use Rattle.std.specs.Prelude.{ℕ, ◌-◌, List, [], ◌∷◌, Bool, false, ◌≡◌, replicate}
-use Rattle.cause.specs.declared.Cause.{Cause}
 use Rattle.rights.specs.declared.Rights.{Rights}
-use Rattle.services.specs.declared.Answers.{Answers}
 use Rattle.services.specs.declared.Given.{Given}
 use Rattle.services.specs.declared.Request.{Request}
 use Rattle.user_element.specs.Element.{note_number_of}
 use Rattle.message_types.specs.declared.Kind.{Kind}
-use Rattle.sent.specs.declared.Sent.{Sent}
 use Rattle.phases.specs.declared.Phase.{Phase}
 use Rattle.sent.specs.declared.side.Side.{Side}
 use Rattle.answer.specs.Answer.{number_of}
@@ -20,11 +20,11 @@ use Rattle.call_promises.specs.Sound.{Offered, run_of}
 -- what is looked at of a message: its kind, its cause, and whether the event's element goes out in it
 pub data Glimpse : Type 0 where
   nothing : Glimpse
-  message : Kind → Cause → Bool → Glimpse
+  message : Kind → Option ℕ → Bool → Glimpse
 
-abbrev pub glimpse_of : Sent → Glimpse
-glimpse_of Sent.Absent = nothing
-glimpse_of (Sent.Present m) = message m.kind m.cause m.element
+abbrev pub glimpse_of : Option Message → Glimpse
+glimpse_of None = nothing
+glimpse_of (Some m) = message m.kind m.cause m.element
 
 -- what an event gives: answer and note by their numbers, the phase, and a message to each user
 pub record Outcome : Type 0 where
@@ -69,7 +69,7 @@ setup services one two three limit l =
       element = l;
     }
 
-abbrev pub silent : Answers
+abbrev pub silent : ByService Given
 silent = record { one = Given.Silent; two = Given.Silent; three = Given.Silent }
 
 abbrev pub says : Side → Offered

@@ -1,8 +1,8 @@
 -- Runs that meet the premises of the promises on handling: elements that go out, services in force, and required ones
 -- that hold or fail.
+use Rattle.services.specs.declared.ByService.{ByService}
 use Rattle.std.specs.Prelude.{List, [], ◌∷◌, ◌++◌, true, false, ◌≡◌}
 use Rattle.rights.specs.declared.Service.{Service}
-use Rattle.services.specs.declared.Answers.{Answers}
 use Rattle.services.specs.declared.Given.{Given}
 use Rattle.services.specs.declared.Request.{Request}
 use Rattle.facility_rules.specs.declared.What.{What}
@@ -18,7 +18,7 @@ use Rattle.call_promises.specs.Handling.{handed_to}
 use Rattle.call_promises.specs.Services.{standing_for, Happens, Takes, Taken, Requires, Failing}
 use Rattle.call.specs.Step.{step_of}
 
-abbrev pub gives : Given → Given → Given → Answers
+abbrev pub gives : Given → Given → Given → ByService Given
 gives one two three = record { one = one; two = two; three = three }
 
 -- an event with an element of 4 octets

@@ -1,9 +1,9 @@
 -- Every number and every note is met, so that no condition of the tables is void and no promise holds for want of
 -- cases.
+use Rattle.std.specs.Prelude.{Some, None}
+use Rattle.services.specs.declared.ByService.{ByService}
 use Rattle.std.specs.Prelude.{ℕ, List, [], ◌∷◌, ◌++◌, true, false, ◌≡◌}
-use Rattle.cause.specs.declared.Cause.{Cause}
 use Rattle.rights.specs.declared.Service.{Service}
-use Rattle.services.specs.declared.Answers.{Answers}
 use Rattle.services.specs.declared.Given.{Given}
 use Rattle.services.specs.declared.Request.{Request}
 use Rattle.services.specs.declared.Standing.{Standing}
@@ -54,7 +54,7 @@ instances =
             note = 0;
             phase = Phase.Active;
             calling = nothing;
-            called = message Kind.CongestionControl (Cause.Value 43) false;
+            called = message Kind.CongestionControl (Some 43) false;
           };
     }
     ∷ record {
@@ -76,7 +76,7 @@ instances =
             note = 0;
             phase = Phase.Active;
             calling = nothing;
-            called = message Kind.Facility Cause.Absent false;
+            called = message Kind.Facility None false;
           };
     }
     ∷ record { before = served; event = bare (Event.Information Side.Calling true); gives = quietly 17 0 Phase.Active }
@@ -105,7 +105,7 @@ instances =
             note = 3;
             phase = Phase.Clearing;
             calling = nothing;
-            called = message Kind.Disconnect (Cause.Value 16) false;
+            called = message Kind.Disconnect (Some 16) false;
           };
     }
     ∷ []
@@ -172,7 +172,7 @@ requiring Service.One = setup 7 Request.Required Request.Unasked Request.Unasked
 requiring Service.Two = setup 7 Request.Unasked Request.Required Request.Unasked 131 [] ∷ []
 requiring Service.Three = setup 7 Request.Unasked Request.Unasked Request.Required 131 [] ∷ []
 
-abbrev pub answering : Service → Given → Answers
+abbrev pub answering : Service → Given → ByService Given
 answering Service.One g = record { one = g; two = Given.Silent; three = Given.Silent }
 answering Service.Two g = record { one = Given.Silent; two = g; three = Given.Silent }
 answering Service.Three g = record { one = Given.Silent; two = Given.Silent; three = g }
@@ -188,8 +188,8 @@ clearing cause before e =
             answer = 0;
             note = 0;
             phase = Phase.Clearing;
-            calling = message Kind.Disconnect (Cause.Value cause) false;
-            called = message Kind.Disconnect (Cause.Value 31) false;
+            calling = message Kind.Disconnect (Some cause) false;
+            called = message Kind.Disconnect (Some 31) false;
           };
     }
 
@@ -228,7 +228,7 @@ declining own heard =
             answer = 0;
             note = 0;
             phase = Phase.Clearing;
-            calling = message Kind.Disconnect (Cause.Value heard) false;
+            calling = message Kind.Disconnect (Some heard) false;
             called = nothing;
           };
     }
@@ -245,7 +245,7 @@ leaving own heard =
             note = 0;
             phase = Phase.Clearing;
             calling = nothing;
-            called = message Kind.Disconnect (Cause.Value heard) false;
+            called = message Kind.Disconnect (Some heard) false;
           };
     }
 

@@ -1,4 +1,6 @@
 -- Every field of the next record is what the sentences say, and nothing else.
+use Rattle.services.specs.declared.ByService.{ByService}
+use Rattle.sent.specs.declared.side.BySide.{BySide}
 use Prim.Native.Nat.{ℕ, ◌+◌, ◌-◌}
 use mathlib.Core.List.{List, [], ◌∷◌}
 use mathlib.Core.Bool.{Bool, true, false, cond, not}
@@ -10,10 +12,8 @@ use lib.Dec.{leb}
 use Rattle.rights.specs.declared.Rights.{Rights}
 use Rattle.rights.specs.declared.Service.{Service}
 use Rattle.rights.specs.Rights.{has_of}
-use Rattle.services.specs.declared.Answers.{Answers}
 use Rattle.services.specs.declared.Given.{Given}
 use Rattle.services.specs.declared.Request.{Request}
-use Rattle.services.specs.declared.Requests.{Requests}
 use Rattle.services.specs.declared.Standing.{Standing}
 use Rattle.services.specs.Standing.{in_force_of, awaits_of}
 use Rattle.user_element.specs.declared.Note.{Note}
@@ -30,12 +30,10 @@ use Rattle.facility_rules.specs.declared.What.{What}
 use Rattle.facility_rules.specs.Asking.{nobody_asks}
 use Rattle.facility_rules.specs.Messages.{not_granted_of}
 use Rattle.answering_rules.specs.declared.Fate.{Fate}
-use Rattle.answering_rules.specs.declared.Fates.{Fates}
 use Rattle.answering_rules.specs.Fates.{alerting_fates_of, connect_fates_of}
 use Rattle.answering_rules.specs.Effects.{settled_of, failed_of, settles_of, in_force_after_of}
 use Rattle.clearing_rules.specs.Closing.{closing_standing_of, silent_answers, heard_answers_of}
 use Rattle.flow_meter.specs.declared.Meter.{Meter}
-use Rattle.flow_meter.specs.declared.call_meters.Meters.{Meters}
 use Rattle.flow_meter.specs.declared.passage.Passage.{Passage}
 use Rattle.flow_meter.specs.Meter.{empty_of, granted_of, ticked_of, refilled_of}
 use Rattle.flow_meter.specs.Passage.{counted_of, paid_of, marked_of}
@@ -130,7 +128,7 @@ module _ (r : Rights) (k : Service) where
   asked_one q x = stands_one false (record { so = λ h. never h refl; back = λ y. absurd y }) q (λ h. never h refl) x
 
 -- an element that asks for service 1 by itself
-implied : (r : Rights) (q : Requests) (l : List ℕ) (x : Request) {s : Seen} → q.one ≡ x → Sight l r.limit s → Decides (implied_of x s) (Implied r q l)
+implied : (r : Rights) (q : ByService Request) (l : List ℕ) (x : Request) {s : Seen} → q.one ≡ x → Sight l r.limit s → Decides (implied_of x s) (Implied r q l)
 implied r q l Request.Unasked e (absent z) = record { so = λ h. never h refl; back = λ i. let k = i.formed.least in absurd (omega arith) }
 implied r q l Request.Unasked e (malformed z w) = record { so = λ h. never h refl; back = λ i. absurd (w i.formed) }
 implied r q l Request.Unasked e (too_long z w h) = record { so = λ h. never h refl; back = λ i. let k = i.limit in absurd (omega arith) }
@@ -143,7 +141,7 @@ implied_unasked Request.Unasked s h = refl
 implied_unasked Request.Preferred s h = never h refl
 implied_unasked Request.Required s h = never h refl
 
-module _ (c : Call) (n : ℕ) (r : Rights) (q : Requests) (l : List ℕ) where
+module _ (c : Call) (n : ℕ) (r : Rights) (q : ByService Request) (l : List ℕ) where
   abbrev seen : Seen
   seen = seen_of l r.limit
 
@@ -183,13 +181,13 @@ module _ (c : Call) (n : ℕ) (r : Rights) (q : Requests) (l : List ℕ) where
 
 -- ---- ALERTING and CONNECT
 
-module _ (c : Call) (e : Event) (kind : Kind) (next : Phase) (f : Fates) where
+module _ (c : Call) (e : Event) (kind : Kind) (next : Phase) (f : ByService Fate) where
   module _
       (one : View c.phase e Service.One c.standings.one f.one)
       (two : View c.phase e Service.Two c.standings.two f.two)
       (three : View c.phase e Service.Three c.standings.three f.three)
     where
-      abbrev metered : Meters
+      abbrev metered : BySide Meter
       metered = in_force_after_of c.meters c.rights.burst f.three
 
       earned : {x : Fate} → Third c e x → Earns c e (in_force_after_of c.meters c.rights.burst x)
@@ -197,7 +195,7 @@ module _ (c : Call) (e : Event) (kind : Kind) (next : Phase) (f : Fates) where
       earned (three_accepted a) = earns a
       earned (three_kept n h) = rw h (earns_not n)
 
-      earned_one : {x : Fate} {m : Meters} → Third c e x → Earns c e m → in_force_after_of c.meters c.rights.burst x ≡ m
+      earned_one : {x : Fate} {m : BySide Meter} → Third c e x → Earns c e m → in_force_after_of c.meters c.rights.burst x ≡ m
       unfolding grants_of granted_of
       earned_one (three_accepted a) (earns b) = refl
       earned_one (three_accepted a) (earns_not n) = absurd (n a)
@@ -229,7 +227,7 @@ module _ (c : Call) (e : Event) (kind : Kind) (next : Phase) (f : Fates) where
 wrapped : {P Q : Call → Type 0} {c : Call} → ((d : Call) → P d → Q d) → ((d : Call) → Q d → P d) → IsTheRecord P c → IsTheRecord Q c
 wrapped f g t d = ((λ h. f d ((t d).0 h)), (λ q. (t d).1 (g d q)))
 
-module _ (c : Call) (a : Answers) (l : List ℕ) where
+module _ (c : Call) (a : ByService Given) (l : List ℕ) where
   rang : (d : Call) → Becomes c l (Event.Alerting a) d → Answered c (Event.Alerting a) Phase.Alerting d
   rang d (alerting x) = x
 
@@ -378,7 +376,7 @@ module _ (c : Call) where
   abbrev one : Standing
   one = c.standings.one
 
-  last_is : (side : Side) (a : Answers) → Last c side a.one (closing_standing_of one (heard_answers_of side a).one)
+  last_is : (side : Side) (a : ByService Given) → Last c side a.one (closing_standing_of one (heard_answers_of side a).one)
   unfolding silent_answers
   last_is Side.Calling a = as_before (λ x. let z : ◌≡◌ {A = ℕ} 0 1 = cc x.called in omega arith)
   last_is Side.Called a = by_given a.one
@@ -397,7 +395,7 @@ module _ (c : Call) where
   one_last side g (as_before x) (accepted y) = absurd (x y)
   one_last side g (as_before x) (as_before y) = refl
 
-module _ (c : Call) (l : List ℕ) (side : Side) (cause : ℕ) (a : Answers) where
+module _ (c : Call) (l : List ℕ) (side : Side) (cause : ℕ) (a : ByService Given) where
   abbrev closing : Standing → Call
   closing s = altered c Phase.Clearing (record { one = s; two = c.standings.two; three = c.standings.three }) c.asking c.meters
 
@@ -450,7 +448,7 @@ module _ (c : Call) (l : List ℕ) where
   tick_left : IsTheRecord (Becomes c l Event.Tick) (passes_tick_of c).call
   unfolding passes_tick_of refills_of ticked_meters_of ticked_of meters_of runs_of
   tick_left =
-      by_cond (λ (m : Meters). IsTheRecord (Becomes c l Event.Tick) (altered c c.phase c.standings c.asking m)) (serves_three_of c.phase (in_force_of c.standings.three))
+      by_cond (λ (m : BySide Meter). IsTheRecord (Becomes c l Event.Tick) (altered c c.phase c.standings c.asking m)) (serves_three_of c.phase (in_force_of c.standings.three))
       (λ h.
       let s = (serves_three c).so h in
       left_by (refreshed _ _) refl (ticks s (refilled_is c.rights _) (refilled_is c.rights _)) (ticks_one s))

@@ -1,4 +1,5 @@
 -- Two records side by side, the second with rights no less: what holds of them while the first call is up.
+use Rattle.sent.specs.declared.side.BySide.{BySide}
 use Prim.Native.Nat.{ℕ, ◌+◌, ◌≤◌, ◌<◌}
 use mathlib.Core.Bool.{Bool, true, false, cond, ◌&&◌}
 use mathlib.Core.Path.{◌≡◌, refl, sym, ◌∙◌}
@@ -11,11 +12,9 @@ use Rattle.answering_rules.specs.declared.Fate.{Fate}
 use Rattle.services.specs.declared.Given.{Given}
 use Rattle.services.specs.declared.Standing.{Standing}
 use Rattle.rights.specs.declared.Service.{Service}
-use Rattle.facility_rules.specs.declared.Asking.{Asking}
 use Rattle.phases.specs.declared.Phase.{Phase}
 use Rattle.sent.specs.declared.side.Side.{Side}
 use Rattle.call.specs.declared.Call.{Call}
-use Rattle.flow_meter.specs.declared.call_meters.Meters.{Meters}
 use Rattle.flow_meter.specs.Meter.{granted_of, refilled_of, ticked_of}
 use Rattle.flow_meter.specs.Passage.{counted_of, paid_of, marked_of, under_three_of, passage_of, after_of}
 use Rattle.rights.specs.Rights.{has_of}
@@ -142,11 +141,11 @@ module _ (s t : Standing) where
   twin_due false g a = twin_decided g a
 
 -- service 3, with the open requests of both sides. had: the first line has it.
-pub data Third (had : Bool) (s t : Standing) (a b : Asking) : Type 0 where
+pub data Third (had : Bool) (s t : Standing) (a b : BySide Bool) : Type 0 where
   shared : had ≡ true → t ≡ s → b ≡ a → Third had s t a b
   apart : had ≡ false → idle_of s ≡ true → easy_of t ≡ true → a ≡ nobody_asks → Third had s t a b
 
-pub above_third : (had : Bool) (s t : Standing) (a b : Asking) → Third had s t a b → Above s t
+pub above_third : (had : Bool) (s t : Standing) (a b : BySide Bool) → Third had s t a b → Above s t
 above_third had s t a b (shared h e f) = same e
 above_third had s t a b (apart h i z f) = less i z
 
@@ -236,26 +235,26 @@ ticked_poorer two three m n b b' r r' hb hr p =
     record { credit = λ h. refilled_grows _ _ _ _ _ _ (p.credit h) hb hr; count = p.count }
 
 -- both meters of a call
-abbrev pub Poor : (Side → Bool) → Bool → Meters → Meters → Type 0
+abbrev pub Poor : (Side → Bool) → Bool → BySide Meter → BySide Meter → Type 0
 Poor two three m n = (side : Side) → Poorer (two side) three (meter_of m side) (meter_of n side)
 
-granted_credit : (m : Meters) (b : ℕ) (side : Side) → (meter_of (grants_of m b) side).credit ≡ b
+granted_credit : (m : BySide Meter) (b : ℕ) (side : Side) → (meter_of (grants_of m b) side).credit ≡ b
 unfolding grants_of granted_of
 granted_credit m b Side.Calling = refl
 granted_credit m b Side.Called = refl
 
-pub granted_count : (m : Meters) (b : ℕ) (side : Side) → (meter_of (grants_of m b) side).count ≡ (meter_of m side).count
+pub granted_count : (m : BySide Meter) (b : ℕ) (side : Side) → (meter_of (grants_of m b) side).count ≡ (meter_of m side).count
 unfolding grants_of granted_of
 granted_count m b Side.Calling = refl
 granted_count m b Side.Called = refl
 
-fate_count : (m : Meters) (b : ℕ) (f : Fate) (side : Side) → (meter_of (in_force_after_of m b f) side).count ≡ (meter_of m side).count
+fate_count : (m : BySide Meter) (b : ℕ) (f : Fate) (side : Side) → (meter_of (in_force_after_of m b f) side).count ≡ (meter_of m side).count
 fate_count m b Fate.Kept side = refl
 fate_count m b Fate.Accepted side = granted_count m b side
 fate_count m b Fate.Closed side = refl
 fate_count m b Fate.Failed side = refl
 
-module _ (two : Side → Bool) (m n : Meters) (b b' : ℕ) (hb : b ≤ b') where
+module _ (two : Side → Bool) (m n : BySide Meter) (b b' : ℕ) (hb : b ≤ b') where
   pub grants_poor : {three : Bool} → Poor two three m n → (force : Bool) → Poor two force (grants_of m b) (grants_of n b')
   grants_poor p force side =
       record {
@@ -270,7 +269,7 @@ module _ (two : Side → Bool) (m n : Meters) (b b' : ℕ) (hb : b ≤ b') where
   fate_poor s Fate.Failed p = λ side. record { credit = λ h. never h refl; count = (p side).count }
 
   -- what the answer to service 3 makes of the meters
-  pub third_poor : (had : Bool) (s t : Standing) (a e : Asking) (g : Given) → Third had s t a e → Poor two (in_force_of s) m n → Poor two (in_force_of (settled_of s (decided_of s g))) (in_force_after_of m b (decided_of s g)) (in_force_after_of n b' (decided_of t g))
+  pub third_poor : (had : Bool) (s t : Standing) (a e : BySide Bool) (g : Given) → Third had s t a e → Poor two (in_force_of s) m n → Poor two (in_force_of (settled_of s (decided_of s g))) (in_force_after_of m b (decided_of s g)) (in_force_after_of n b' (decided_of t g))
   third_poor had s t a e g (shared h x y) p = rw x (fate_poor s (decided_of s g) p)
   third_poor had s t a e g (apart h i z y) p =
       rw (idle_kept s g i)
@@ -280,7 +279,7 @@ module _ (two : Side → Bool) (m n : Meters) (b b' : ℕ) (hb : b ≤ b') where
         count = λ h. omega (arith, fate_count n b' (decided_of t g) side, (p side).count h);
       })
 
-pub third_settled : (had : Bool) (s t : Standing) (a e : Asking) (g : Given) → Third had s t a e → Third had (settled_of s (decided_of s g)) (settled_of t (decided_of t g)) a e
+pub third_settled : (had : Bool) (s t : Standing) (a e : BySide Bool) (g : Given) → Third had s t a e → Third had (settled_of s (decided_of s g)) (settled_of t (decided_of t g)) a e
 third_settled had s t a e g (shared h x y) = shared h (rw x refl) y
 third_settled had s t a e g (apart h i z y) = rw (idle_kept s g i) (apart h i (easy_settled t g z) y)
 

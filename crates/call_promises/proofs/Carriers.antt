@@ -1,4 +1,9 @@
 -- The service that carries an event's element is the one that the sentences say, and there is no other.
+use Rattle.std.specs.Prelude.{Option, Some, None}
+use Rattle.services.specs.declared.ByService.{ByService}
+use Rattle.services.specs.declared.Request.{Request}
+use Rattle.services.specs.declared.Given.{Given}
+use Rattle.answering_rules.specs.declared.Fate.{Fate}
 use Prim.Native.Nat.{ℕ}
 use mathlib.Core.List.{List}
 use mathlib.Core.Bool.{Bool, true, false, ◌&&◌, not}
@@ -6,20 +11,16 @@ use mathlib.Core.Path.{◌≡◌, refl, sym, ◌∙◌, ap, subst}
 use native.Mathlib.Omega.{arith}
 use Rattle.rights.specs.declared.Rights.{Rights}
 use Rattle.rights.specs.declared.Service.{Service}
-use Rattle.services.specs.declared.Answers.{Answers}
-use Rattle.services.specs.declared.Requests.{Requests}
 use Rattle.services.specs.Standing.{in_force_of}
 use Rattle.user_element.specs.declared.Seen.{Seen}
 use Rattle.user_element.specs.Element.{seen_of}
 use Rattle.message_types.specs.declared.Kind.{Kind}
 use Rattle.phases.specs.declared.Phase.{Phase}
 use Rattle.phases.specs.Phase.{requested_of}
-use Rattle.sent.specs.declared.dispatch.Carrier.{Carrier}
 use Rattle.sent.specs.declared.side.Side.{Side}
 use Rattle.sent.specs.Dispatch.{by_one_of}
 use Rattle.event.specs.declared.Event.{Event}
 use Rattle.facility_rules.specs.declared.What.{What}
-use Rattle.answering_rules.specs.declared.Fates.{Fates}
 use Rattle.answering_rules.specs.Fates.{alerting_fates_of, connect_fates_of}
 use Rattle.answering_rules.specs.Effects.{settled_of, settles_of, failed_of}
 use Rattle.clearing_rules.specs.Closing.{heard_answers_of}
@@ -53,17 +54,17 @@ use Rattle.call_promises.proofs.Sends.{alerting_denies, connect_denies}
 -- ---- a carrier and the sentence that names it
 
 -- the service of a carrier
-abbrev within : Service → Carrier → Service
-within d Carrier.Nobody = d
-within d (Carrier.By k) = k
+abbrev within : Service → Option Service → Service
+within d None = d
+within d (Some k) = k
 
-borne_by : {P : Service → Type 0} {x : Carrier} (k : Service) → x ≡ Carrier.By k → P k → ((j : Service) → P j → k ≡ j) → IsTheCarrier P x
-borne_by {P} k e p u j = ((λ h. subst P (ap (within k) (sym e ∙ h)) p), (λ y. e ∙ ap Carrier.By (u j y)))
+borne_by : {P : Service → Type 0} {x : Option Service} (k : Service) → x ≡ Some k → P k → ((j : Service) → P j → k ≡ j) → IsTheCarrier P x
+borne_by {P} k e p u j = ((λ h. subst P (ap (within k) (sym e ∙ h)) p), (λ y. e ∙ ap Some (u j y)))
 
-none_bears : {k : Service} → Carrier.Nobody ≡ Carrier.By k → ⊥
+none_bears : {k : Service} → None ≡ Some k → ⊥
 none_bears {k} e = let z : ◌≡◌ {A = ℕ} 0 1 = cc in omega arith
 
-borne_none : {P : Service → Type 0} {x : Carrier} → x ≡ Carrier.Nobody → ((j : Service) → P j → ⊥) → IsTheCarrier P x
+borne_none : {P : Service → Type 0} {x : Option Service} → x ≡ None → ((j : Service) → P j → ⊥) → IsTheCarrier P x
 borne_none e f j = ((λ h. absurd (none_bears (sym e ∙ h))), (λ y. absurd (f j y)))
 
 -- an event that is let through has the carrier of its reply, and one that is stopped none
@@ -84,55 +85,55 @@ rides_borne c l e (own f g) true d = borne_by Service.One refl (f (d.so refl)) (
 rides_borne c l e (own f g) false d = borne_none refl (λ k x. never (d.back (g k x).1) refl)
 
 module _ (c : Call) (l : List ℕ) where
-  setup_own : (n : ℕ) (r : Rights) (q : Requests) → OwnMessage c l (Event.Setup n r q)
+  setup_own : (n : ℕ) (r : Rights) (q : ByService Request) → OwnMessage c l (Event.Setup n r q)
   setup_own n r q = own setup back
     where
       back : (k : Service) → Carries c l (Event.Setup n r q) k → (Service.One ≡ k) × Rides c (Event.Setup n r q) l
       back k (setup x) = (refl, x)
 
-  alerting_own : (a : Answers) → OwnMessage c l (Event.Alerting a)
+  alerting_own : (a : ByService Given) → OwnMessage c l (Event.Alerting a)
   alerting_own a = own alerting back
     where
       back : (k : Service) → Carries c l (Event.Alerting a) k → (Service.One ≡ k) × Rides c (Event.Alerting a) l
       back k (alerting x) = (refl, x)
 
-  connect_own : (a : Answers) → OwnMessage c l (Event.Connect a)
+  connect_own : (a : ByService Given) → OwnMessage c l (Event.Connect a)
   connect_own a = own connect back
     where
       back : (k : Service) → Carries c l (Event.Connect a) k → (Service.One ≡ k) × Rides c (Event.Connect a) l
       back k (connect x) = (refl, x)
 
-  disconnect_own : (side : Side) (cause : ℕ) (a : Answers) → OwnMessage c l (Event.Disconnect side cause a)
+  disconnect_own : (side : Side) (cause : ℕ) (a : ByService Given) → OwnMessage c l (Event.Disconnect side cause a)
   disconnect_own side cause a = own disconnect back
     where
       back : (k : Service) → Carries c l (Event.Disconnect side cause a) k → (Service.One ≡ k) × Rides c (Event.Disconnect side cause a) l
       back k (disconnect x) = (refl, x)
 
-setup_borne : (c : Call) (n : ℕ) (r : Rights) (q : Requests) (l : List ℕ) → IsTheCarrier (Carries c l (Event.Setup n r q)) (proceeds_of n r q (seen_of l r.limit)).dispatch.carrier
+setup_borne : (c : Call) (n : ℕ) (r : Rights) (q : ByService Request) (l : List ℕ) → IsTheCarrier (Carries c l (Event.Setup n r q)) (proceeds_of n r q (seen_of l r.limit)).dispatch.carrier
 unfolding proceeds_of
 setup_borne c n r q l =
     let s = seen_of l r.limit in
     rides_borne c l _ (setup_own c l n r q) _ (rides c _ l (setup_carries_of r q s) (sight l r.limit) (setup_carries c n r q s))
 
 -- where a required service fails the message does not go on, and its element does not
-answering_borne : (c : Call) (l : List ℕ) (e : Event) (kind : Kind) (next : Phase) (f : Fates) {seen : Seen} (x : Bool) → OwnMessage c l e → Sight l (limit_for c e) seen → Denies (not x && in_force_of (settled_of c.standings.one f.one)) (NotCarried c e) → IsTheCarrier (Carries c l e) (answering_of c kind next f seen x).dispatch.carrier
+answering_borne : (c : Call) (l : List ℕ) (e : Event) (kind : Kind) (next : Phase) (f : ByService Fate) {seen : Seen} (x : Bool) → OwnMessage c l e → Sight l (limit_for c e) seen → Denies (not x && in_force_of (settled_of c.standings.one f.one)) (NotCarried c e) → IsTheCarrier (Carries c l e) (answering_of c kind next f seen x).dispatch.carrier
 unfolding goes_on_of clears_of answered_call_of settles_of
 answering_borne c l e kind next f false o v d = rides_borne c l e o _ (rides c e l _ v (λ _. d))
 answering_borne c l e kind next f true (own g h) v d = borne_none refl (λ k x. (h k x).1.carried (d.so refl))
 
-alerting_borne : (c : Call) (a : Answers) (l : List ℕ) → IsTheCarrier (Carries c l (Event.Alerting a)) (answered_of c Kind.Alerting Phase.Alerting (alerting_fates_of c.standings a) l).dispatch.carrier
+alerting_borne : (c : Call) (a : ByService Given) (l : List ℕ) → IsTheCarrier (Carries c l (Event.Alerting a)) (answered_of c Kind.Alerting Phase.Alerting (alerting_fates_of c.standings a) l).dispatch.carrier
 unfolding answered_of
 alerting_borne c a l =
     let f = alerting_fates_of c.standings a in
     answering_borne c l (Event.Alerting a) Kind.Alerting Phase.Alerting f (failed_of f) (alerting_own c l a) (sight l c.rights.limit) (alerting_denies c a)
 
-connect_borne : (c : Call) (a : Answers) (l : List ℕ) → IsTheCarrier (Carries c l (Event.Connect a)) (answered_of c Kind.Connect Phase.Active (connect_fates_of (not (requested_of c.phase)) c.standings a) l).dispatch.carrier
+connect_borne : (c : Call) (a : ByService Given) (l : List ℕ) → IsTheCarrier (Carries c l (Event.Connect a)) (answered_of c Kind.Connect Phase.Active (connect_fates_of (not (requested_of c.phase)) c.standings a) l).dispatch.carrier
 unfolding answered_of
 connect_borne c a l =
     let f = connect_fates_of (not (requested_of c.phase)) c.standings a in
     answering_borne c l (Event.Connect a) Kind.Connect Phase.Active f (failed_of f) (connect_own c l a) (sight l c.rights.limit) (connect_denies c a)
 
-disconnect_borne : (c : Call) (l : List ℕ) (side : Side) (cause : ℕ) (a : Answers) → IsTheCarrier (Carries c l (Event.Disconnect side cause a)) (passed_on_of c side cause (heard_answers_of side a) (seen_of l c.rights.limit)).dispatch.carrier
+disconnect_borne : (c : Call) (l : List ℕ) (side : Side) (cause : ℕ) (a : ByService Given) → IsTheCarrier (Carries c l (Event.Disconnect side cause a)) (passed_on_of c side cause (heard_answers_of side a) (seen_of l c.rights.limit)).dispatch.carrier
 unfolding passed_on_of reply_of
 disconnect_borne c l side cause a =
     rides_borne c l _ (disconnect_own c l side cause a) _

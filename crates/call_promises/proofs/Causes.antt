@@ -1,17 +1,16 @@
 -- The causes follow from what is sent, and of 29 from the causes.
+use Rattle.std.specs.Prelude.{Option, Some}
+use Rattle.services.specs.declared.ByService.{ByService}
 use Prim.Native.Nat.{ℕ}
 use mathlib.Core.List.{List}
 use mathlib.Core.Logic.{inl, inr}
 use mathlib.Core.Path.{◌≡◌, refl, sym, ◌∙◌, subst}
 use native.Mathlib.Omega.{arith}
 use Rattle.rights.specs.declared.Service.{Service}
-use Rattle.services.specs.declared.Answers.{Answers}
 use Rattle.services.specs.declared.Given.{Given}
 use Rattle.services.specs.declared.Standing.{Standing}
-use Rattle.cause.specs.declared.Cause.{Cause}
 use Rattle.message_types.specs.declared.Kind.{Kind}
 use Rattle.sent.specs.declared.Message.{Message}
-use Rattle.sent.specs.declared.Sent.{Sent}
 use Rattle.sent.specs.declared.side.Side.{Side}
 use Rattle.call.specs.declared.Call.{Call}
 use Rattle.event.specs.declared.Event.{Event}
@@ -30,7 +29,7 @@ use Rattle.logic.proofs.Decide.{denied as denies}
 
 -- ---- a required service that fails, as `Sends` has it and as `Failed` has it
 
-alerting_so : (c : Call) (a : Answers) (k : Service) (g : Given) → FailsAt c (Event.Alerting a) k g → AlertingFails c.standings a
+alerting_so : (c : Call) (a : ByService Given) (k : Service) (g : Given) → FailsAt c (Event.Alerting a) k g → AlertingFails c.standings a
 alerting_so c a k g x = due k g x.due x.required x.refused
   where
     due : (k : Service) (g : Given) → Due c.phase (Event.Alerting a) k g → standing_for c.standings k ≡ Standing.Required → (g ≡ Given.Accepted → ⊥) → AlertingFails c.standings a
@@ -38,7 +37,7 @@ alerting_so c a k g x = due k g x.due x.required x.refused
     due Service.Two g (ringing n e) r m = inr (r, λ h. m (sym e ∙ h))
     due Service.Three g (ringing n e) r m = absurd (n refl)
 
-connect_so : (c : Call) (a : Answers) (k : Service) (g : Given) → FailsAt c (Event.Connect a) k g → ConnectFails c.phase c.standings a
+connect_so : (c : Call) (a : ByService Given) (k : Service) (g : Given) → FailsAt c (Event.Connect a) k g → ConnectFails c.phase c.standings a
 connect_so c a k g x = due k g x.due x.required x.refused
   where
     due : (k : Service) (g : Given) → Due c.phase (Event.Connect a) k g → standing_for c.standings k ≡ Standing.Required → (g ≡ Given.Accepted → ⊥) → ConnectFails c.phase c.standings a
@@ -83,23 +82,23 @@ module _ (c : Call) (l : List ℕ) where
 
 -- ---- both users are sent theirs
 
-bears_sent : {s : Sent} {m : Message} {kind : Kind} {cause : Cause} → s ≡ Sent.Present m → m.kind ≡ kind → m.cause ≡ cause → Bears kind cause s
+bears_sent : {s : Option Message} {m : Message} {kind : Kind} {cause : Option ℕ} → s ≡ Some m → m.kind ≡ kind → m.cause ≡ cause → Bears kind cause s
 bears_sent {kind = kind} {cause = cause} e x y = subst (Bears kind cause) (sym e) (bears x y)
 
 module _ (f : Core) (s : SendsExactly f) (c : Call) (l : List ℕ) where
   abbrev Cleared : Event → Type 0
   Cleared e =
-      Bears Kind.Disconnect (Cause.Value 69) (sent_to (f c e l) Side.Calling)
-      × Bears Kind.Disconnect (Cause.Value 31) (sent_to (f c e l) Side.Called)
+      Bears Kind.Disconnect (Some 69) (sent_to (f c e l) Side.Calling)
+      × Bears Kind.Disconnect (Some 31) (sent_to (f c e l) Side.Called)
 
-  alerting_both : (a : Answers) → Hears c (Event.Alerting a) → SomeFails c (Event.Alerting a) → Cleared (Event.Alerting a)
+  alerting_both : (a : ByService Given) → Hears c (Event.Alerting a) → SomeFails c (Event.Alerting a) → Cleared (Event.Alerting a)
   alerting_both a h (some x) =
       let e = Event.Alerting a in
       let p = c.phase in
       let q = c.standings in
       (bears_sent ((s c e l Side.Calling _).1 (h, alerting (clears x (turned_is c e Service.One (alerting_one p q a)) (turned_is c e Service.Two (alerting_two p q a)) (turned_is c e Service.Three (alerting_three p q a))))) refl refl, bears_sent ((s c e l Side.Called _).1 (h, alerting (clears_too x))) refl refl)
 
-  connect_both : (a : Answers) → Hears c (Event.Connect a) → SomeFails c (Event.Connect a) → Cleared (Event.Connect a)
+  connect_both : (a : ByService Given) → Hears c (Event.Connect a) → SomeFails c (Event.Connect a) → Cleared (Event.Connect a)
   connect_both a h (some x) =
       let e = Event.Connect a in
       let p = c.phase in
@@ -111,7 +110,7 @@ module _ (f : Core) (s : SendsExactly f) (c : Call) (l : List ℕ) where
   both e h (at-alerting x) = alerting_both _ h (fails_back c e (at-alerting x))
   both e h (at-connect x) = connect_both _ h (fails_back c e (at-connect x))
 
-  passed_on : (from : Side) (n : ℕ) (a : Answers) → Hears c (Event.Disconnect from n a) → Bears Kind.Disconnect (Cause.Value n) (sent_to (f c (Event.Disconnect from n a) l) (other from))
+  passed_on : (from : Side) (n : ℕ) (a : ByService Given) → Hears c (Event.Disconnect from n a) → Bears Kind.Disconnect (Some n) (sent_to (f c (Event.Disconnect from n a) l) (other from))
   passed_on from n a h =
       let e = Event.Disconnect from n a in
       let b = rides c e l _ (sight l c.rights.limit) (λ _. denies _ (disconnect_comes from c.standings.one a)) in
@@ -128,7 +127,7 @@ causes f s =
 -- ---- one cause
 
 -- a user's own DISCONNECT answers nothing that is due
-not_own : {c : Call} {from : Side} {n : ℕ} {a : Answers} → RequiredFails c (Event.Disconnect from n a) → ⊥
+not_own : {c : Call} {from : Side} {n : ℕ} {a : ByService Given} → RequiredFails c (Event.Disconnect from n a) → ⊥
 not_own x = elim x [ ]
 
 pub one_cause_lem : OneCause
@@ -152,7 +151,7 @@ one_cause_lem c e side kind x y ready_again ready_again = refl
 
 -- ---- 29
 
-only_own : {c : Call} {e : Event} {side : Side} {kind : Kind} {cause : Cause} → CauseTold c e side kind cause → cause ≡ Cause.Value 29 → (kind ≡ Kind.Disconnect) × OwnWord 29 e side
+only_own : {c : Call} {e : Event} {side : Side} {kind : Kind} {cause : Option ℕ} → CauseTold c e side kind cause → cause ≡ Some 29 → (kind ≡ Kind.Disconnect) × OwnWord 29 e side
 only_own refused h = absurd (let z : ◌≡◌ {A = ℕ} 50 29 = cc h in omega arith)
 only_own proceeds h = absurd (let z : ◌≡◌ {A = ℕ} 0 1 = cc h in omega arith)
 only_own goes_on h = absurd (let z : ◌≡◌ {A = ℕ} 0 1 = cc h in omega arith)

@@ -1,4 +1,6 @@
 -- Each credit and each count is that of the account of the events.
+use Rattle.services.specs.declared.ByService.{ByService}
+use Rattle.sent.specs.declared.side.BySide.{BySide}
 use Prim.Native.Nat.{ℕ}
 use mathlib.Core.List.{List, [], ◌∷◌}
 use mathlib.Core.Bool.{Bool, true, false, cond, ◌&&◌, ◌||◌, not}
@@ -12,23 +14,17 @@ use Rattle.flow_meter.specs.declared.Meter.{Meter}
 use Rattle.flow_meter.specs.declared.passage.Passage.{Passage}
 use Rattle.user_element.specs.declared.Seen.{Seen}
 use Rattle.rights.specs.declared.Rights.{Rights}
-use Rattle.services.specs.declared.Answers.{Answers}
 use Rattle.answering_rules.specs.declared.Fate.{Fate}
-use Rattle.answering_rules.specs.declared.Fates.{Fates}
 use Rattle.services.specs.declared.Given.{Given}
 use Rattle.services.specs.declared.Request.{Request}
-use Rattle.services.specs.declared.Requests.{Requests}
 use Rattle.services.specs.declared.Standing.{Standing}
-use Rattle.services.specs.declared.Standings.{Standings}
 use Rattle.answer.specs.declared.Answer.{Answer}
-use Rattle.facility_rules.specs.declared.Asking.{Asking}
 use Rattle.facility_rules.specs.declared.What.{What}
 use Rattle.message_types.specs.declared.Kind.{Kind}
 use Rattle.phases.specs.declared.Phase.{Phase}
 use Rattle.sent.specs.declared.side.Side.{Side}
 use Rattle.call.specs.declared.Call.{Call}
 use Rattle.event.specs.declared.Event.{Event}
-use Rattle.flow_meter.specs.declared.call_meters.Meters.{Meters}
 use Rattle.call.specs.declared.reply.Reply.{Reply}
 use Rattle.flow_meter.specs.Meter.{empty_of, granted_of, refilled_of, ticked_of}
 use Rattle.flow_meter.specs.Passage.{counted_of, paid_of, marked_of, under_three_of, passage_of, after_of}
@@ -68,7 +64,7 @@ use Rattle.call_promises.proofs.Sound.{step_in}
 abbrev purse : Meter → Purse
 purse m = record { credit = m.credit; count = m.count }
 
-abbrev told : Call → Requests → Account
+abbrev told : Call → ByService Request → Account
 told c q =
     record {
       rights = c.rights;
@@ -90,18 +86,18 @@ due_of Standing.InForce = Request.Unasked
 due_of Standing.Closed = Request.Unasked
 
 -- what SETUP left is what waits, until ALERTING or CONNECT answers it
-record Due (p : Phase) (q : Requests) (s : Standings) : Type 0 where
+record Due (p : Phase) (q : ByService Request) (s : ByService Standing) : Type 0 where
   one : requested_of p ≡ true → q.one ≡ due_of s.one
   two : requested_of p ≡ true → q.two ≡ due_of s.two
   idle : requested_of p ≡ true → in_force_of s.two ≡ false
   three : connectable_of p ≡ true → q.three ≡ due_of s.three
 
 record Agrees (a : Account) (c : Call) : Type 0 where
-  requests : Requests
+  requests : ByService Request
   same : a ≡ told c requests
   due : Due c.phase requests c.standings
 
-not_due : (p : Phase) (q : Requests) (s : Standings) → requested_of p ≡ false → connectable_of p ≡ false → Due p q s
+not_due : (p : Phase) (q : ByService Request) (s : ByService Standing) → requested_of p ≡ false → connectable_of p ≡ false → Due p q s
 not_due p q s m n = record { one = λ h. never h m; two = λ h. never h m; idle = λ h. never h m; three = λ h. never h n }
 
 or_no : (b : Bool) → (b || false) ≡ b
@@ -135,7 +131,7 @@ fails_lacking Request.Unasked b = refl
 fails_lacking Request.Preferred b = refl
 fails_lacking Request.Required b = refl
 
-lacks_same : (r : Rights) (q : Requests) → lacks r q ≡ lacks_of r q
+lacks_same : (r : Rights) (q : ByService Request) → lacks r q ≡ lacks_of r q
 unfolding lacks_of
 lacks_same r q = rw (fails_lacking q.one _, fails_lacking q.two _, fails_lacking q.three _) refl
 
@@ -161,7 +157,7 @@ asked_idle Request.Preferred false = refl
 asked_idle Request.Required true = refl
 asked_idle Request.Required false = refl
 
-setup_agrees : (reference : ℕ) (r : Rights) (q : Requests) (seen : Seen) → Agrees (begins r (remaining r q) (cond (lacks r q) Phase.Ended Phase.Requested)) (proceeds_of reference r q seen).call
+setup_agrees : (reference : ℕ) (r : Rights) (q : ByService Request) (seen : Seen) → Agrees (begins r (remaining r q) (cond (lacks r q) Phase.Ended Phase.Requested)) (proceeds_of reference r q seen).call
 unfolding proceeds_of setup_phase_of standings_of empty_meters empty_of nobody_asks
 setup_agrees reference r q seen =
     record {
@@ -208,8 +204,8 @@ unanswered Standing.InForce false = refl
 unanswered Standing.Closed false = refl
 
 -- CONNECT, the account once service 3 is answered
-module _ (r : Rights) (q : Requests) (two : Bool) (asks : Asking) (m : Meters) where
-  abbrev after : Bool → Meters → Account
+module _ (r : Rights) (q : ByService Request) (two : Bool) (asks : BySide Bool) (m : BySide Meter) where
+  abbrev after : Bool → BySide Meter → Account
   after three n =
       record {
         rights = r;
@@ -316,25 +312,25 @@ ticks_live Phase.Clearing t x y = refl
 ticks_live Phase.Ended t x y = refl
 
 -- the events that a sound record takes
-module _ (c : Call) (q : Requests) (d : Due c.phase q c.standings) where
+module _ (c : Call) (q : ByService Request) (d : Due c.phase q c.standings) where
   abbrev a : Account
   a = told c q
 
   kept : Agrees a c
   kept = record { requests = q; same = refl; due = d }
 
-  outcome_agrees : (kind : Kind) (next : Phase) (f : Fates) (seen : Seen) (x : Bool) (t : Bool) (b : Account) → t ≡ x → Agrees b (answered_call_of c next f) → Agrees (cond t (clears a) b) (answering_of c kind next f seen x).call
+  outcome_agrees : (kind : Kind) (next : Phase) (f : ByService Fate) (seen : Seen) (x : Bool) (t : Bool) (b : Account) → t ≡ x → Agrees b (answered_call_of c next f) → Agrees (cond t (clears a) b) (answering_of c kind next f seen x).call
   unfolding goes_on_of clears_of in_phase_of
   outcome_agrees kind next f seen false t b e g = rw e g
   outcome_agrees kind next f seen true t b e g =
       rw e (record { requests = q; same = refl; due = not_due Phase.Clearing q _ refl refl })
 
-  alerts_failed : (g : Answers) → requested_of c.phase ≡ true → (fails q.one (accepts g.one) || fails q.two (accepts g.two)) ≡ failed_of (alerting_fates_of c.standings g)
+  alerts_failed : (g : ByService Given) → requested_of c.phase ≡ true → (fails q.one (accepts g.one) || fails q.two (accepts g.two)) ≡ failed_of (alerting_fates_of c.standings g)
   unfolding alerting_fates_of failed_of
   alerts_failed g h =
       rw (decided_failed c.standings.one g.one, decided_failed c.standings.two g.two, d.one h, d.two h, or_no) refl
 
-  alerts_agrees : (g : Answers) (l : List ℕ) → requested_of c.phase ≡ true → Agrees (alerts a g) (answered_of c Kind.Alerting Phase.Alerting (alerting_fates_of c.standings g) l).call
+  alerts_agrees : (g : ByService Given) (l : List ℕ) → requested_of c.phase ≡ true → Agrees (alerts a g) (answered_of c Kind.Alerting Phase.Alerting (alerting_fates_of c.standings g) l).call
   unfolding answered_of alerting_fates_of answered_call_of settles_of
   alerts_agrees g l h =
       outcome_agrees Kind.Alerting Phase.Alerting (alerting_fates_of c.standings g) _ (failed_of (alerting_fates_of c.standings g)) _
@@ -351,14 +347,14 @@ module _ (c : Call) (q : Requests) (d : Due c.phase q c.standings) where
             };
       })
 
-  connects_failed : (g : Answers) (b : Bool) → requested_of c.phase ≡ b → connectable_of c.phase ≡ true → ((b && (fails q.one (accepts g.one) || fails q.two false)) || fails q.three (accepts g.three)) ≡ failed_of (connect_fates_of (not b) c.standings g)
+  connects_failed : (g : ByService Given) (b : Bool) → requested_of c.phase ≡ b → connectable_of c.phase ≡ true → ((b && (fails q.one (accepts g.one) || fails q.two false)) || fails q.three (accepts g.three)) ≡ failed_of (connect_fates_of (not b) c.standings g)
   unfolding connect_fates_of failed_of
   connects_failed g true e h =
       rw (decided_failed c.standings.one g.one, decided_failed c.standings.two Given.Silent, decided_failed c.standings.three g.three, d.one e, d.two e, d.three h) refl
   connects_failed g false e h =
       rw (decided_failed c.standings.three g.three, d.three h) refl
 
-  connects_agrees : (g : Answers) (l : List ℕ) → connectable_of c.phase ≡ true → Agrees (connects a g) (answered_of c Kind.Connect Phase.Active (connect_fates_of (not (requested_of c.phase)) c.standings g) l).call
+  connects_agrees : (g : ByService Given) (l : List ℕ) → connectable_of c.phase ≡ true → Agrees (connects a g) (answered_of c Kind.Connect Phase.Active (connect_fates_of (not (requested_of c.phase)) c.standings g) l).call
   unfolding answered_of connect_fates_of answered_call_of settles_of
   connects_agrees g l h =
       let s = c.standings in
@@ -434,7 +430,7 @@ module _ (c : Call) (q : Requests) (d : Due c.phase q c.standings) where
   ticks_agrees false = record { requests = q; same = refl; due = d }
 
 -- one event
-module _ (c : Call) (q : Requests) (d : Due c.phase q c.standings) (s : sound_of c ≡ true) where
+module _ (c : Call) (q : ByService Request) (d : Due c.phase q c.standings) (s : sound_of c ≡ true) where
   ticks_told : (l : List ℕ) → books (told c q) Event.Tick l ≡ cond (live_of c.phase) (cond (serves_three_of c.phase (in_force_of c.standings.three)) (refilled (told c q)) (told c q)) (told c q)
   ticks_told l = ticks_live c.phase (in_force_of c.standings.three) (refilled (told c q)) (told c q)
 
@@ -503,10 +499,10 @@ passage_paid two three m =
       | false ↦ by_cond (P false) two (λ _ z. absurd (omega arith)) (λ _ z. absurd (omega arith))
     ])
 
-abbrev Covers : Call → Requests → Side → Reply → Type 0
+abbrev Covers : Call → ByService Request → Side → Reply → Type 0
 Covers c q side r = number_of r.answer ≡ 0 → (by_count (told c q) side ≡ true) ⊎ (by_credit (told c q) side ≡ true)
 
-module _ (c : Call) (q : Requests) (more : Bool) where
+module _ (c : Call) (q : ByService Request) (more : Bool) where
   carried_covers : (side : Side) → talking_of c.phase ≡ true → Covers c q side (carried_of c side more (information_passage_of c side))
   unfolding carried_of reply_of information_passage_of
   carried_covers Side.Calling h =

@@ -1,4 +1,6 @@
 -- A service in force was asked for and accepted in the run.
+use Rattle.services.specs.declared.ByService.{ByService}
+use Rattle.sent.specs.declared.side.BySide.{BySide}
 use Prim.Native.Nat.{ℕ}
 use mathlib.Core.List.{List, [], ◌∷◌, ◌++◌, append-nil, append_assoc}
 use mathlib.Core.Bool.{Bool, true, false, cond, ◌||◌, not}
@@ -8,15 +10,11 @@ use native.Mathlib.Omega.{arith}
 use Rattle.user_element.specs.declared.Seen.{Seen}
 use Rattle.rights.specs.declared.Rights.{Rights}
 use Rattle.rights.specs.declared.Service.{Service}
-use Rattle.services.specs.declared.Answers.{Answers}
 use Rattle.answering_rules.specs.declared.Fate.{Fate}
-use Rattle.answering_rules.specs.declared.Fates.{Fates}
 use Rattle.services.specs.declared.Given.{Given}
 use Rattle.services.specs.declared.Request.{Request}
-use Rattle.services.specs.declared.Requests.{Requests}
 use Rattle.services.specs.declared.Standing.{Standing}
 use Rattle.answer.specs.declared.Answer.{Answer}
-use Rattle.facility_rules.specs.declared.Asking.{Asking}
 use Rattle.facility_rules.specs.declared.What.{What}
 use Rattle.message_types.specs.declared.Kind.{Kind}
 use Rattle.phases.specs.declared.Phase.{Phase}
@@ -61,7 +59,7 @@ Stands Standing.Required = Unit {0}
 Stands Standing.InForce = Unit {0}
 Stands Standing.Closed = ⊥
 
-abbrev AskedNow : Asking → Service → Type 0
+abbrev AskedNow : BySide Bool → Service → Type 0
 AskedNow a Service.One = ⊥
 AskedNow a Service.Two = ⊥
 AskedNow a Service.Three = (a.calling ≡ true) ⊎ (a.called ≡ true)
@@ -106,7 +104,7 @@ not_in_force Request.Preferred false i = let z : ◌≡◌ {A = ℕ} 0 1 = cc in
 not_in_force Request.Required true i = let z : ◌≡◌ {A = ℕ} 0 1 = cc in omega arith
 not_in_force Request.Required false i = let z : ◌≡◌ {A = ℕ} 0 1 = cc in omega arith
 
-module _ (rights : Rights) (q : Requests) (l : List ℕ) where
+module _ (rights : Rights) (q : ByService Request) (l : List ℕ) where
   one_asked : {s : Seen} → Sight l rights.limit s → (x : Request) (had : Bool) → q.one ≡ x → Stands (first_standing_of x s had) → (had ≡ true) × (Explicit x ⊎ Implied rights q l)
   unfolding first_standing_of
   one_asked (absent z) Request.Unasked had e w = absurd w
@@ -132,7 +130,7 @@ nobody Service.One x = x
 nobody Service.Two x = x
 nobody Service.Three x = ⊎_elim (λ h. never h refl) (λ h. never h refl) x
 
-module _ (reference : ℕ) (rights : Rights) (q : Requests) (l : List ℕ) where
+module _ (reference : ℕ) (rights : Rights) (q : ByService Request) (l : List ℕ) where
   setup_asked : (k : Service) → Stands (standing_for (standings_of rights q (seen_of l rights.limit)) k) → AsksFor k (Event.Setup reference rights q) l × Has rights k
   unfolding standings_of
   setup_asked Service.One w =
@@ -186,7 +184,7 @@ decided_comes Standing.Closed g i = inl i
 decided : (s : Standing) (g : Given) {A : Type 0} → (g ≡ Given.Accepted → A) → Answered s (decided_of s g) A
 decided s g f = record { stands = decided_stands s g; comes = λ i. ⊎_elim (λ x. inl x) (λ x. inr (f x)) (decided_comes s g i) }
 
-module _ (c : Call) (k : Service) (e : Event) (l : List ℕ) (kind : Kind) (next : Phase) (f : Fates) (a : Answered (standing_for c.standings k) (fate_for f k) (Accepts k e l)) where
+module _ (c : Call) (k : Service) (e : Event) (l : List ℕ) (kind : Kind) (next : Phase) (f : ByService Fate) (a : Answered (standing_for c.standings k) (fate_for f k) (Accepts k e l)) where
   outcome_traces : (seen : Seen) (x : Bool) → TracesOf c k e l (answering_of c kind next f seen x)
   unfolding goes_on_of clears_of in_phase_of answered_call_of
   outcome_traces seen false =
@@ -200,7 +198,7 @@ module _ (c : Call) (k : Service) (e : Event) (l : List ℕ) (kind : Kind) (next
   unfolding answered_of
   answered_traces = outcome_traces _ (failed_of f)
 
-module _ (c : Call) (a : Answers) (l : List ℕ) where
+module _ (c : Call) (a : ByService Given) (l : List ℕ) where
   alerting_answered : (k : Service) → Answered (standing_for c.standings k) (fate_for (alerting_fates_of c.standings a) k) (Accepts k (Event.Alerting a) l)
   unfolding alerting_fates_of
   alerting_answered Service.One = decided _ _ (λ h. alerting (λ x. let z : ◌≡◌ {A = ℕ} 0 1 = cc in omega arith) h)
@@ -216,7 +214,7 @@ module _ (c : Call) (a : Answers) (l : List ℕ) where
   connect_answered alerted Service.Three = decided _ _ (λ h. connect (λ x. let z : ◌≡◌ {A = ℕ} 0 1 = cc in omega arith) h)
 
 -- FACILITY
-asks_now : (a : Asking) (side : Side) → asks_of a side ≡ true → AskedNow a Service.Three
+asks_now : (a : BySide Bool) (side : Side) → asks_of a side ≡ true → AskedNow a Service.Three
 asks_now a Side.Calling h = inl h
 asks_now a Side.Called h = inr h
 
@@ -294,12 +292,12 @@ closing_comes s Given.Silent i = inl i
 closing_comes s Given.Accepted i = inr refl
 closing_comes s Given.Rejected i = inl i
 
-heard_accepted : (side : Side) (cause : ℕ) (a : Answers) (l : List ℕ) → (heard_answers_of side a).one ≡ Given.Accepted → Accepts Service.One (Event.Disconnect side cause a) l
+heard_accepted : (side : Side) (cause : ℕ) (a : ByService Given) (l : List ℕ) → (heard_answers_of side a).one ≡ Given.Accepted → Accepts Service.One (Event.Disconnect side cause a) l
 unfolding silent_answers
 heard_accepted Side.Calling cause a l h = absurd (let z : ◌≡◌ {A = ℕ} 0 1 = cc in omega arith)
 heard_accepted Side.Called cause a l h = disconnect h
 
-disconnect_traces : (c : Call) (side : Side) (cause : ℕ) (a : Answers) (l : List ℕ) (k : Service) → Traces c k (Event.Disconnect side cause a) l (closed_call_of c (closing_standing_of c.standings.one (heard_answers_of side a).one)) 0
+disconnect_traces : (c : Call) (side : Side) (cause : ℕ) (a : ByService Given) (l : List ℕ) (k : Service) → Traces c k (Event.Disconnect side cause a) l (closed_call_of c (closing_standing_of c.standings.one (heard_answers_of side a).one)) 0
 unfolding closed_call_of
 disconnect_traces c side cause a l Service.One =
     record {

@@ -1,4 +1,8 @@
 -- What goes out is whole and under a service, and what has no note goes out.
+use Rattle.std.specs.Prelude.{Option, Some, None}
+use Rattle.services.specs.declared.ByService.{ByService}
+use Rattle.services.specs.declared.Said.{Said}
+use Rattle.answering_rules.specs.declared.Fate.{Fate}
 use Prim.Native.Nat.{ℕ, ◌<◌, ◌≤◌}
 use mathlib.Core.List.{List, []}
 use mathlib.Core.Bool.{Bool, true, false, cond, ◌&&◌, not}
@@ -9,20 +13,14 @@ use borrow.Author.Tests.{ltb-true}
 use lib.ListN.{length}
 use lib.Dec.{ltb}
 use Rattle.flow_meter.specs.declared.passage.Passage.{Passage}
-use Rattle.cause.specs.declared.Cause.{Cause}
 use Rattle.user_element.specs.declared.Note.{Note}
 use Rattle.user_element.specs.declared.Seen.{Seen}
 use Rattle.rights.specs.declared.Rights.{Rights}
 use Rattle.rights.specs.declared.Service.{Service}
-use Rattle.services.specs.declared.Facilities.{Facilities}
-use Rattle.answering_rules.specs.declared.Fates.{Fates}
 use Rattle.services.specs.declared.Request.{Request}
-use Rattle.services.specs.declared.Requests.{Requests}
 use Rattle.answer.specs.declared.Answer.{Answer}
 use Rattle.message_types.specs.declared.Kind.{Kind}
 use Rattle.sent.specs.declared.Message.{Message}
-use Rattle.sent.specs.declared.Sent.{Sent}
-use Rattle.sent.specs.declared.dispatch.Carrier.{Carrier}
 use Rattle.phases.specs.declared.Phase.{Phase}
 use Rattle.sent.specs.declared.side.Side.{Side}
 use Rattle.call.specs.declared.Call.{Call}
@@ -56,15 +54,15 @@ use Rattle.call_promises.proofs.Conditions.{in_force, has, serves_two, serves_th
 use Rattle.call_promises.proofs.Seen.{Sight, absent, malformed, too_long, whole, sight}
 
 -- no element goes out in the message
-abbrev Plain : Sent → Type 0
-Plain Sent.Absent = Unit {0}
-Plain (Sent.Present m) = m.element ≡ false
+abbrev Plain : Option Message → Type 0
+Plain None = Unit {0}
+Plain (Some m) = m.element ≡ false
 
-plain_empty : (s : Sent) (l : List ℕ) → Plain s → handed_in s l ≡ []
-plain_empty Sent.Absent l p = refl
-plain_empty (Sent.Present m) l p = ap (λ (b : Bool). cond b l []) p
+plain_empty : (s : Option Message) (l : List ℕ) → Plain s → handed_in s l ≡ []
+plain_empty None l p = refl
+plain_empty (Some m) l p = ap (λ (b : Bool). cond b l []) p
 
-only_plain : (b : Bool) (s : Sent) → Plain s → Plain (only_if_of b s)
+only_plain : (b : Bool) (s : Option Message) → Plain s → Plain (only_if_of b s)
 unfolding only_if_of
 only_plain b s p = by_cond Plain b (λ _. p) (λ _. tt)
 
@@ -74,9 +72,9 @@ Offers e l = (Bare e → ⊥) × (length l ≡ 0 → ⊥)
 
 -- A message to one side either has no element, or has one that may go out in it. N: the event is taken, and there is no
 -- note on its element.
-data Way (e : Event) (to : Side) (l : List ℕ) (limit : ℕ) (P N : Type 0) : Sent → Type 0 where
-  plain : {s : Sent} → Plain s → (Offers e l → N → ⊥) → Way e to l limit P N s
-  goes : {m : Message} → m.element ≡ true → Goes e to m.kind m.more → WellFormed l → length l ≤ limit → P → N → Way e to l limit P N (Sent.Present m)
+data Way (e : Event) (to : Side) (l : List ℕ) (limit : ℕ) (P N : Type 0) : Option Message → Type 0 where
+  plain : {s : Option Message} → Plain s → (Offers e l → N → ⊥) → Way e to l limit P N s
+  goes : {m : Message} → m.element ≡ true → Goes e to m.kind m.more → WellFormed l → length l ≤ limit → P → N → Way e to l limit P N (Some m)
 
 record Passes (c : Call) (e : Event) (l : List ℕ) (r : Reply) : Type 0 where
   to : Side
@@ -109,7 +107,7 @@ unnoted_so l limit true (whole z w k) n h = (refl, refl)
 unnoted_so l limit false (whole z w k) n h = absurd (omega arith)
 
 -- a message of an event that is taken, with the note on the event's element
-saying_way : (e : Event) (to : Side) (l : List ℕ) (limit : ℕ) {P : Type 0} (kind : Kind) (cause : Cause) (said : Facilities) (carried : Bool) → Goes e to kind false → (seen_of l limit ≡ Seen.Whole → WellFormed l → length l ≤ limit → carried ≡ true → P) → Way e to l limit P ((number_of Answer.Taken ≡ 0) × (note_number_of (noted_of (seen_of l limit) carried) ≡ 0)) (saying_of kind cause said (goes_out_of (seen_of l limit) carried))
+saying_way : (e : Event) (to : Side) (l : List ℕ) (limit : ℕ) {P : Type 0} (kind : Kind) (cause : Option ℕ) (said : ByService Said) (carried : Bool) → Goes e to kind false → (seen_of l limit ≡ Seen.Whole → WellFormed l → length l ≤ limit → carried ≡ true → P) → Way e to l limit P ((number_of Answer.Taken ≡ 0) × (note_number_of (noted_of (seen_of l limit) carried) ≡ 0)) (saying_of kind cause said (goes_out_of (seen_of l limit) carried))
 unfolding saying_of
 saying_way e to l limit {P} kind cause said carried g f = go _ refl
   where
@@ -129,22 +127,22 @@ remains_so Request.Preferred false h = h
 remains_so Request.Required true h = refl
 remains_so Request.Required false h = h
 
-asked : (rights : Rights) (q : Requests) (l : List ℕ) (x : Request) → q.one ≡ x → WellFormed l → length l ≤ rights.limit → Explicit q.one ⊎ Implied rights q l
+asked : (rights : Rights) (q : ByService Request) (l : List ℕ) (x : Request) → q.one ≡ x → WellFormed l → length l ≤ rights.limit → Explicit q.one ⊎ Implied rights q l
 asked rights q l Request.Unasked e w k = inr (record { unasked = e; formed = w; limit = k })
 asked rights q l Request.Preferred e w k = inl (inl e)
 asked rights q l Request.Required e w k = inl (inr e)
 
-setup_under : (rights : Rights) (q : Requests) (l : List ℕ) (s : Seen) → s ≡ Seen.Whole → WellFormed l → length l ≤ rights.limit → setup_carries_of rights q s ≡ true → Has rights Service.One × (Explicit q.one ⊎ Implied rights q l)
+setup_under : (rights : Rights) (q : ByService Request) (l : List ℕ) (s : Seen) → s ≡ Seen.Whole → WellFormed l → length l ≤ rights.limit → setup_carries_of rights q s ≡ true → Has rights Service.One × (Explicit q.one ⊎ Implied rights q l)
 unfolding setup_carries_of standings_of
 setup_under rights q l s e w k h =
     let t = (both _ _ (as_is (not (lacks_of rights q))) (as_is (remains_of (standings_of rights q Seen.Whole).one))).so (rw e at h) in
     ((has rights Service.One).so (remains_so q.one _ t.1), asked rights q l _ refl w k)
 
-setup_goes : (rights : Rights) (q : Requests) (s : Seen) → setup_carries_of rights q s ≡ true → not (lacks_of rights q) ≡ true
+setup_goes : (rights : Rights) (q : ByService Request) (s : Seen) → setup_carries_of rights q s ≡ true → not (lacks_of rights q) ≡ true
 unfolding setup_carries_of
 setup_goes rights q s h = ((both _ _ (as_is (not (lacks_of rights q))) (as_is (remains_of (standings_of rights q s).one))).so h).0
 
-setup_passes : (c : Call) (reference : ℕ) (rights : Rights) (q : Requests) (l : List ℕ) → Passes c (Event.Setup reference rights q) l (proceeds_of reference rights q (seen_of l rights.limit))
+setup_passes : (c : Call) (reference : ℕ) (rights : Rights) (q : ByService Request) (l : List ℕ) → Passes c (Event.Setup reference rights q) l (proceeds_of reference rights q (seen_of l rights.limit))
 unfolding proceeds_of setup_phase_of to_caller_of to_called_of saying_of
 setup_passes c reference rights q l =
     record {
@@ -159,7 +157,7 @@ setup_passes c reference rights q l =
     }
 
 -- ALERTING and CONNECT
-module _ (c : Call) (e : Event) (l : List ℕ) (kind : Kind) (next : Phase) (f : Fates) where
+module _ (c : Call) (e : Event) (l : List ℕ) (kind : Kind) (next : Phase) (f : ByService Fate) where
   outcome_passes : (x : Bool) → limit_for c e ≡ c.rights.limit → Goes e Side.Calling kind false → ((d : Call) → d.phase ≡ next → InForce d.standings.one → Under c l d e) → Passes c e l (answering_of c kind next f (seen_of l c.rights.limit) x)
   unfolding goes_on_of clears_of answered_call_of bare_of saying_of
   outcome_passes false k g u =
@@ -180,7 +178,7 @@ module _ (c : Call) (e : Event) (l : List ℕ) (kind : Kind) (next : Phase) (f :
   answered_passes = outcome_passes (failed_of f)
 
 -- a reply to one side's event, whose message to that side has no element
-side_passes : (c : Call) (e : Event) (l : List ℕ) (side : Side) (d : Call) (a : Answer) (note : Note) (back on : Sent) (x : Carrier) → Plain back → Way e (other side) l (limit_for c e) (Under c l d e) ((number_of a ≡ 0) × (note_number_of note ≡ 0)) on → Passes c e l (reply_of side d a note back on x)
+side_passes : (c : Call) (e : Event) (l : List ℕ) (side : Side) (d : Call) (a : Answer) (note : Note) (back on : Option Message) (x : Option Service) → Plain back → Way e (other side) l (limit_for c e) (Under c l d e) ((number_of a ≡ 0) × (note_number_of note ≡ 0)) on → Passes c e l (reply_of side d a note back on x)
 unfolding reply_of
 side_passes c e l Side.Calling d a note back on x p w = record { to = Side.Called; on = w; back = p }
 side_passes c e l Side.Called d a note back on x p w = record { to = Side.Calling; on = w; back = p }
@@ -261,7 +259,7 @@ passes c Event.CongestionControl l = refused_passes c _ l _ _ (λ o _. o.0 tt)
 
 -- what a user is handed is what goes out to that user
 module _ (c : Call) (e : Event) (l : List ℕ) where
-  abbrev OnTheWay : Side → Sent → Type 0
+  abbrev OnTheWay : Side → Option Message → Type 0
   OnTheWay to s = Way e to l (limit_for c e) (Under c l (step_of c e l).call e) (Unnoted (step_of c e l)) s
 
   none : (side to : Side) → Plain (sent_to (step_of c e l) to) → Plain (sent_to (step_of c e l) (other to)) → handed_in (sent_to (step_of c e l) side) l ≡ []
@@ -270,7 +268,7 @@ module _ (c : Call) (e : Event) (l : List ℕ) where
   none Side.Calling Side.Called p b = plain_empty (step_of c e l).dispatch.calling l b
   none Side.Called Side.Calling p b = plain_empty (step_of c e l).dispatch.called l b
 
-  entire : (to : Side) (m : Message) → sent_to (step_of c e l) to ≡ Sent.Present m → m.element ≡ true → Goes e to m.kind m.more → WellFormed l → length l ≤ limit_for c e → Plain (sent_to (step_of c e l) (other to)) → HandedWhole step_of c e l to
+  entire : (to : Side) (m : Message) → sent_to (step_of c e l) to ≡ Some m → m.element ≡ true → Goes e to m.kind m.more → WellFormed l → length l ≤ limit_for c e → Plain (sent_to (step_of c e l) (other to)) → HandedWhole step_of c e l to
   entire to m h t g w k b =
       record {
         own = rw (h, t) refl;
@@ -282,13 +280,13 @@ module _ (c : Call) (e : Event) (l : List ℕ) where
         alone = plain_empty (sent_to (step_of c e l) (other to)) l b;
       }
 
-  way_out : (to : Side) {s : Sent} → sent_to (step_of c e l) to ≡ s → OnTheWay to s → Plain (sent_to (step_of c e l) (other to)) → Out step_of c e l
+  way_out : (to : Side) {s : Option Message} → sent_to (step_of c e l) to ≡ s → OnTheWay to s → Plain (sent_to (step_of c e l) (other to)) → Out step_of c e l
   way_out to h (plain p f) b =
       record { unnoted = λ x z n. absurd (f (x, z) n); dropped = λ _ side. none side to (rw h p) b }
   way_out to h (goes {m} t g w k u n) b =
       record { unnoted = λ _ _ _. (to, entire to m h t g w k b); dropped = λ x. absurd (x n) }
 
-  way_whole : (side : Side) {s : Sent} → sent_to (step_of c e l) side ≡ s → OnTheWay side s → Plain (sent_to (step_of c e l) (other side)) → (handed_in s l ≡ [] → ⊥) → HandedWhole step_of c e l side × Under c l (step_of c e l).call e
+  way_whole : (side : Side) {s : Option Message} → sent_to (step_of c e l) side ≡ s → OnTheWay side s → Plain (sent_to (step_of c e l) (other side)) → (handed_in s l ≡ [] → ⊥) → HandedWhole step_of c e l side × Under c l (step_of c e l).call e
   way_whole side {s} h (plain p f) b n = absurd (n (plain_empty s l p))
   way_whole side h (goes {m} t g w k u _) b n = (entire side m h t g w k b, u)
 

@@ -1,4 +1,7 @@
 -- A step keeps the reference and the rights of a call, and its meters in range.
+use Rattle.services.specs.declared.ByService.{ByService}
+use Rattle.services.specs.declared.Request.{Request}
+use Rattle.sent.specs.declared.side.BySide.{BySide}
 use Prim.Native.Nat.{ℕ, ◌+◌, ◌≤◌}
 use mathlib.Core.List.{List}
 use mathlib.Core.Bool.{Bool, true, false, ◌&&◌}
@@ -10,8 +13,6 @@ use Rattle.flow_meter.specs.declared.Meter.{Meter}
 use Rattle.user_element.specs.declared.Seen.{Seen}
 use Rattle.rights.specs.declared.Rights.{Rights}
 use Rattle.answering_rules.specs.declared.Fate.{Fate}
-use Rattle.answering_rules.specs.declared.Fates.{Fates}
-use Rattle.services.specs.declared.Requests.{Requests}
 use Rattle.answer.specs.declared.Answer.{Answer}
 use Rattle.facility_rules.specs.declared.What.{What}
 use Rattle.message_types.specs.declared.Kind.{Kind}
@@ -19,7 +20,6 @@ use Rattle.phases.specs.declared.Phase.{Phase}
 use Rattle.sent.specs.declared.side.Side.{Side}
 use Rattle.call.specs.declared.Call.{Call}
 use Rattle.event.specs.declared.Event.{Event}
-use Rattle.flow_meter.specs.declared.call_meters.Meters.{Meters}
 use Rattle.call.specs.declared.reply.Reply.{Reply}
 use Rattle.flow_meter.specs.Meter.{empty_of, granted_of, refilled_of, ticked_of}
 use Rattle.flow_meter.specs.Passage.{counted_of, paid_of, marked_of, under_three_of, passage_of, after_of}
@@ -75,36 +75,36 @@ module _ (b : ℕ) (m : Meter) (i : MeterInRange b m) where
       (λ _. by_cond (λ p. MeterInRange b (after_of m p)) two (λ _. i) (λ _. i)))
 
 -- both meters
-pub record MetersIn (b : ℕ) (m : Meters) : Type 0 where
+pub record MetersIn (b : ℕ) (m : BySide Meter) : Type 0 where
   pub calling : MeterInRange b m.calling
   pub called : MeterInRange b m.called
 
-meter_in : (b : ℕ) (m : Meters) (side : Side) → MetersIn b m → MeterInRange b (meter_of m side)
+meter_in : (b : ℕ) (m : BySide Meter) (side : Side) → MetersIn b m → MeterInRange b (meter_of m side)
 meter_in b m Side.Calling i = i.calling
 meter_in b m Side.Called i = i.called
 
-with_in : (b : ℕ) (m : Meters) (side : Side) (n : Meter) → MetersIn b m → MeterInRange b n → MetersIn b (with_meter_of m side n)
+with_in : (b : ℕ) (m : BySide Meter) (side : Side) (n : Meter) → MetersIn b m → MeterInRange b n → MetersIn b (with_meter_of m side n)
 with_in b m Side.Calling n i k = record { calling = k; called = i.called }
 with_in b m Side.Called n i k = record { calling = i.calling; called = k }
 
-grants_in : (b : ℕ) (m : Meters) → MetersIn b m → MetersIn b (grants_of m b)
+grants_in : (b : ℕ) (m : BySide Meter) → MetersIn b m → MetersIn b (grants_of m b)
 unfolding grants_of
 grants_in b m i = record { calling = granted_in b _ i.calling; called = granted_in b _ i.called }
 
-fate_in : (b : ℕ) (m : Meters) (f : Fate) → MetersIn b m → MetersIn b (in_force_after_of m b f)
+fate_in : (b : ℕ) (m : BySide Meter) (f : Fate) → MetersIn b m → MetersIn b (in_force_after_of m b f)
 fate_in b m Fate.Kept i = i
 fate_in b m Fate.Accepted i = grants_in b m i
 fate_in b m Fate.Closed i = i
 fate_in b m Fate.Failed i = i
 
-what_in : (b : ℕ) (m : Meters) (w : What) → MetersIn b m → MetersIn b (facility_meters_of m b w)
+what_in : (b : ℕ) (m : BySide Meter) (w : What) → MetersIn b m → MetersIn b (facility_meters_of m b w)
 what_in b m What.Preferred i = i
 what_in b m What.Accept i = grants_in b m i
 what_in b m What.Reject i = i
 what_in b m What.Required i = i
 
 abbrev pub NotSetup : Event → Type 0
-NotSetup e = (reference : ℕ) (rights : Rights) (q : Requests) → e ≡ Event.Setup reference rights q → ⊥
+NotSetup e = (reference : ℕ) (rights : Rights) (q : ByService Request) → e ≡ Event.Setup reference rights q → ⊥
 
 -- the call d, after a step of c
 pub record Follows (c d : Call) : Type 0 where
@@ -126,12 +126,12 @@ module _ (c : Call) where
   pub same : Follows c c
   same = record { reference = refl; rights = refl; meters = λ m. m }
 
-  outcome_in : (kind : Kind) (next : Phase) (f : Fates) (seen : Seen) (x : Bool) → Follows c (answering_of c kind next f seen x).call
+  outcome_in : (kind : Kind) (next : Phase) (f : ByService Fate) (seen : Seen) (x : Bool) → Follows c (answering_of c kind next f seen x).call
   unfolding goes_on_of clears_of answered_call_of in_phase_of
   outcome_in kind next f seen false = record { reference = refl; rights = refl; meters = fate_in _ _ f.three }
   outcome_in kind next f seen true = record { reference = refl; rights = refl; meters = λ m. m }
 
-  pub answered_in : (kind : Kind) (next : Phase) (f : Fates) (l : List ℕ) → Follows c (answered_of c kind next f l).call
+  pub answered_in : (kind : Kind) (next : Phase) (f : ByService Fate) (l : List ℕ) → Follows c (answered_of c kind next f l).call
   unfolding answered_of
   answered_in kind next f l = outcome_in kind next f _ (failed_of f)
 
@@ -161,7 +161,7 @@ module _ (c : Call) where
         rights = refl;
         meters =
             λ i.
-            by_cond (λ (m : Meters). MetersIn c.rights.burst m) (runs_of c)
+            by_cond (λ (m : BySide Meter). MetersIn c.rights.burst m) (runs_of c)
             (λ _. record { calling = ticked_in _ _ i.calling _; called = ticked_in _ _ i.called _ })
             (λ _. i);
       }
@@ -185,7 +185,7 @@ module _ (c : Call) where
   step_in Event.CongestionControl l o = same
 
 -- a SETUP in range fills the whole record
-pub setup_in : (reference : ℕ) (rights : Rights) (q : Requests) (seen : Seen) → ReferenceInRange reference → RightsInRange rights → InRangeCall (proceeds_of reference rights q seen).call
+pub setup_in : (reference : ℕ) (rights : Rights) (q : ByService Request) (seen : Seen) → ReferenceInRange reference → RightsInRange rights → InRangeCall (proceeds_of reference rights q seen).call
 unfolding proceeds_of empty_meters empty_of
 setup_in reference rights q seen n r =
     record {

@@ -1,4 +1,6 @@
 -- The lent meter and the meters of a call.
+use Rattle.std.specs.Prelude.{Option, Some, None}
+use Rattle.sent.specs.declared.Message.{Message}
 use Prim.Native.Nat.{ℕ, ◌≤◌}
 use mathlib.Core.List.{List, [], ◌∷◌}
 use mathlib.Core.Bool.{Bool, true, false, cond}
@@ -19,7 +21,6 @@ use Rattle.user_element.specs.declared.Seen.{Seen}
 use Rattle.user_element.specs.Element.{well_formed_of, seen_of, whole_of}
 use Rattle.rights.specs.Rights.{rights_fit_of, reference_fits_of}
 use Rattle.sent.specs.declared.Level.{Level}
-use Rattle.sent.specs.declared.Sent.{Sent}
 use Rattle.sent.specs.declared.side.Side.{Side}
 use Rattle.sent.specs.Message.{silence, congestion_of, only_if_of}
 use Rattle.phases.specs.Phase.{talking_of, live_of}
@@ -77,9 +78,9 @@ seen_whole (too_long e n k) w h = absurd (omega arith)
 seen_whole (whole e n k) w h = refl
 
 -- what is sent, and what spend and tick say, by a test
-abbrev is_sent : Sent → Bool
-is_sent Sent.Absent = false
-is_sent (Sent.Present m) = true
+abbrev is_sent : Option Message → Bool
+is_sent None = false
+is_sent (Some m) = true
 
 abbrev is_marked : Spent → Bool
 is_marked Spent.Two = false

@@ -1,4 +1,8 @@
 -- More rights never hand over less: one event, then runs.
+use Rattle.std.specs.Prelude.{Option, Some, None}
+use Rattle.sent.specs.declared.Message.{Message}
+use Rattle.services.specs.declared.ByService.{ByService}
+use Rattle.sent.specs.declared.side.BySide.{BySide}
 use Prim.Native.Nat.{ℕ}
 use mathlib.Core.List.{List, [], ◌∷◌}
 use mathlib.Core.Bool.{Bool, true, false, cond, ◌&&◌, ◌||◌, not}
@@ -10,26 +14,19 @@ use Rattle.user_element.specs.declared.Note.{Note}
 use Rattle.user_element.specs.declared.Seen.{Seen}
 use Rattle.rights.specs.declared.Rights.{Rights}
 use Rattle.rights.specs.declared.Service.{Service}
-use Rattle.services.specs.declared.Answers.{Answers}
 use Rattle.answering_rules.specs.declared.Fate.{Fate}
-use Rattle.answering_rules.specs.declared.Fates.{Fates}
 use Rattle.services.specs.declared.Given.{Given}
 use Rattle.services.specs.declared.Request.{Request}
-use Rattle.services.specs.declared.Requests.{Requests}
 use Rattle.services.specs.declared.Said.{Said}
 use Rattle.services.specs.declared.Standing.{Standing}
 use Rattle.answer.specs.declared.Answer.{Answer}
-use Rattle.facility_rules.specs.declared.Asking.{Asking}
 use Rattle.facility_rules.specs.declared.What.{What}
 use Rattle.message_types.specs.declared.Kind.{Kind}
 use Rattle.sent.specs.declared.Level.{Level}
-use Rattle.sent.specs.declared.Sent.{Sent}
-use Rattle.sent.specs.declared.dispatch.Carrier.{Carrier}
 use Rattle.phases.specs.declared.Phase.{Phase}
 use Rattle.sent.specs.declared.side.Side.{Side}
 use Rattle.call.specs.declared.Call.{Call}
 use Rattle.event.specs.declared.Event.{Event}
-use Rattle.flow_meter.specs.declared.call_meters.Meters.{Meters}
 use Rattle.call.specs.declared.reply.Reply.{Reply}
 use Rattle.flow_meter.specs.Meter.{ticked_of}
 use Rattle.flow_meter.specs.Passage.{after_of}
@@ -71,11 +68,11 @@ use Rattle.call_promises.proofs.Sound.{step_in}
 use Rattle.call_promises.proofs.Beside.{and_right, and_left, idle_of, easy_of, Above, same, less, idle_force, force_up, remains_up, closing_up, twin_decided, twin_due, Third, shared, apart, above_third, Poorer, counts_of, passages, ticked_poorer, Poor, granted_count, grants_poor, third_poor, third_settled, Below}
 
 -- whether the event's element goes out in a message
-abbrev carries_of : Sent → Bool
-carries_of Sent.Absent = false
-carries_of (Sent.Present m) = m.element
+abbrev carries_of : Option Message → Bool
+carries_of None = false
+carries_of (Some m) = m.element
 
-abbrev Gives : Sent → Sent → Type 0
+abbrev Gives : Option Message → Option Message → Type 0
 Gives s t = carries_of s ≡ true → carries_of t ≡ true
 
 -- a call that is over hands nothing over any more
@@ -111,7 +108,7 @@ both_cond true f g = f
 both_cond false f g = g
 
 -- messages
-unsaid : (b : Bool) (s : Sent) → carries_of s ≡ false → carries_of (only_if_of b s) ≡ false
+unsaid : (b : Bool) (s : Option Message) → carries_of s ≡ false → carries_of (only_if_of b s) ≡ false
 unfolding only_if_of
 unsaid true s e = e
 unsaid false s e = refl
@@ -129,7 +126,7 @@ about : (b : Bool) (s : Said) → carries_of (only_if_of b (about_three_of s)) �
 unfolding about_three_of saying_of
 about b s = unsaid b _ refl
 
-replies : (side : Side) (c d : Call) (a a' : Answer) (n n' : Note) (s s' t t' : Sent) (x y : Carrier) → Stage c d → Gives s s' → Gives t t' → Both (reply_of side c a n s t x) (reply_of side d a' n' s' t' y)
+replies : (side : Side) (c d : Call) (a a' : Answer) (n n' : Note) (s s' t t' : Option Message) (x y : Option Service) → Stage c d → Gives s s' → Gives t t' → Both (reply_of side c a n s t x) (reply_of side d a' n' s' t' y)
 unfolding reply_of
 replies Side.Calling c d a a' n n' s s' t t' x y st f g = record { stage = st; calling = f; called = g }
 replies Side.Called c d a a' n n' s s' t t' x y st f g = record { stage = st; calling = g; called = f }
@@ -216,7 +213,7 @@ first_above q s b b' f h = implied (implied_of q s) b b' f (asked_above q b b' f
     implied true false true f a = less refl refl
     implied true false false f a = less refl refl
 
-asked_third : (q : Request) (b b' : Bool) (a : Asking) → a ≡ nobody_asks → (b ≡ true → b' ≡ true) → lacking_of q b ≡ false → Third b (asked_standing_of q b) (asked_standing_of q b') a a
+asked_third : (q : Request) (b b' : Bool) (a : BySide Bool) → a ≡ nobody_asks → (b ≡ true → b' ≡ true) → lacking_of q b ≡ false → Third b (asked_standing_of q b) (asked_standing_of q b') a a
 asked_third q true b' a e f h = rw (f refl) (shared refl refl refl)
 asked_third Request.Unasked false b' a e f h = apart refl refl refl e
 asked_third Request.Preferred false true a e f h = apart refl refl refl e
@@ -237,14 +234,14 @@ module _ (r r' : Rights) (n : NoLess r r') where
   has_up : (k : Service) → has_of r k ≡ true → has_of r' k ≡ true
   has_up k h = (has r' k).back (n.services k ((has r k).so h))
 
-  lacks_none : (q : Requests) → lacks_of r q ≡ false → (lacking_of q.one (has_of r Service.One) ≡ false) × (lacking_of q.two (has_of r Service.Two) ≡ false) × (lacking_of q.three (has_of r Service.Three) ≡ false)
+  lacks_none : (q : ByService Request) → lacks_of r q ≡ false → (lacking_of q.one (has_of r Service.One) ≡ false) × (lacking_of q.two (has_of r Service.Two) ≡ false) × (lacking_of q.three (has_of r Service.Three) ≡ false)
   unfolding lacks_of
   lacks_none q h =
       let t = or_false _ _ h in
       let u = or_false _ _ t.0 in
       (u.0, u.1, t.1)
 
-  lacks_up : (q : Requests) → lacks_of r q ≡ false → lacks_of r' q ≡ false
+  lacks_up : (q : ByService Request) → lacks_of r q ≡ false → lacks_of r' q ≡ false
   unfolding lacks_of
   lacks_up q h =
       let t = lacks_none q h in
@@ -253,7 +250,7 @@ module _ (r r' : Rights) (n : NoLess r r') where
   empty_poor : (two : Side → Bool) (three : Bool) → Poor two three empty_meters empty_meters
   empty_poor two three side = record { credit = λ _. omega arith; count = λ _. omega arith }
 
-  filled_below : (reference : ℕ) (q : Requests) (seen : Seen) → lacks_of r q ≡ false → Below (opened_of reference r Phase.Requested (standings_of r q seen)) (opened_of reference r' Phase.Requested (standings_of r' q seen))
+  filled_below : (reference : ℕ) (q : ByService Request) (seen : Seen) → lacks_of r q ≡ false → Below (opened_of reference r Phase.Requested (standings_of r q seen)) (opened_of reference r' Phase.Requested (standings_of r' q seen))
   unfolding standings_of
   filled_below reference q seen h =
       let t = lacks_none q h in
@@ -266,7 +263,7 @@ module _ (r r' : Rights) (n : NoLess r r') where
         meters = empty_poor _ _;
       }
 
-  setup_by : (reference : ℕ) (q : Requests) (seen : Seen) (b : Bool) → lacks_of r q ≡ b → Both (proceeds_of reference r q seen) (proceeds_of reference r' q seen)
+  setup_by : (reference : ℕ) (q : ByService Request) (seen : Seen) (b : Bool) → lacks_of r q ≡ b → Both (proceeds_of reference r q seen) (proceeds_of reference r' q seen)
   unfolding proceeds_of setup_phase_of to_caller_of to_called_of saying_of goes_out_of setup_carries_of
   setup_by reference q seen true h = from_silent _ _ (rw h (record { phase = refl; calling = refl; called = refl }))
   setup_by reference q seen false h =
@@ -311,14 +308,14 @@ three_force Phase.Active f h = h
 three_force Phase.Clearing f h = never h refl
 three_force Phase.Ended f h = never h refl
 
-third_same : (had : Bool) (s t : Standing) (a b : Asking) → Third had s t a b → in_force_of s ≡ true → t ≡ s
+third_same : (had : Bool) (s t : Standing) (a b : BySide Bool) → Third had s t a b → in_force_of s ≡ true → t ≡ s
 third_same had s t a b (shared h e f) x = e
 third_same had s t a b (apart h i z f) x = never x (idle_force s i)
 
 weaker : (t t' three : Bool) (m n : Meter) → (t' ≡ true → t ≡ true) → Poorer t three m n → Poorer t' three m n
 weaker t t' three m n f p = record { credit = p.credit; count = λ h. p.count (f h) }
 
-with_poor : (two : Side → Bool) (three : Bool) (m n : Meters) (side : Side) (x y : Meter) → Poor two three m n → Poorer (two side) three x y → Poor two three (with_meter_of m side x) (with_meter_of n side y)
+with_poor : (two : Side → Bool) (three : Bool) (m n : BySide Meter) (side : Side) (x y : Meter) → Poor two three m n → Poorer (two side) three x y → Poor two three (with_meter_of m side x) (with_meter_of n side y)
 with_poor two three m n Side.Calling x y p k = λ side. at side
   where
     at : (side : Side) → Poorer (two side) three (meter_of (with_meter_of m Side.Calling x) side) (meter_of (with_meter_of n Side.Calling y) side)
@@ -331,7 +328,7 @@ with_poor two three m n Side.Called x y p k = λ side. at side
     at Side.Called = k
 
 -- ticks
-module _ (m n : Meters) (r r' : Rights) (w : NoLess r r') where
+module _ (m n : BySide Meter) (r r' : Rights) (w : NoLess r r') where
   refills_poor : (two : Side → Bool) (three runs : Bool) → Poor two three m n → Poor two three (refills_of m r runs) (refills_of n r' runs)
   unfolding refills_of ticked_meters_of
   refills_poor two three true p = λ side. at side
@@ -341,14 +338,14 @@ module _ (m n : Meters) (r r' : Rights) (w : NoLess r r') where
       at Side.Called = ticked_poorer _ _ _ _ _ _ _ _ w.burst w.refill (p Side.Called)
   refills_poor two three false p = p
 
-refills_count : (m : Meters) (r : Rights) (runs : Bool) (side : Side) → (meter_of (refills_of m r runs) side).count ≡ (meter_of m side).count
+refills_count : (m : BySide Meter) (r : Rights) (runs : Bool) (side : Side) → (meter_of (refills_of m r runs) side).count ≡ (meter_of m side).count
 unfolding refills_of ticked_meters_of ticked_of
 refills_count m r true Side.Calling = refl
 refills_count m r true Side.Called = refl
 refills_count m r false side = refl
 
 -- requests for service 3 while connected
-untaken : (r : Rights) (s : Standing) (a : Asking) (side : Side) (what : What) → has_of r Service.Three ≡ false → in_force_of s ≡ false → a ≡ nobody_asks → taken_of (facility_answer_of what (to_request_of (may_ask_of r side) (in_force_of s || asks_of a side)) (to_answer_of (in_force_of s || not (asks_of a (peer_of side))))) ≡ false
+untaken : (r : Rights) (s : Standing) (a : BySide Bool) (side : Side) (what : What) → has_of r Service.Three ≡ false → in_force_of s ≡ false → a ≡ nobody_asks → taken_of (facility_answer_of what (to_request_of (may_ask_of r side) (in_force_of s || asks_of a side)) (to_answer_of (in_force_of s || not (asks_of a (peer_of side))))) ≡ false
 unfolding to_request_of to_answer_of nobody_asks
 untaken r s a Side.Calling What.Preferred h f e = rw h refl
 untaken r s a Side.Called What.Preferred h f e = rw h refl
@@ -368,13 +365,13 @@ facility_easy t What.Accept h = refl
 facility_easy t What.Reject h = h
 facility_easy t What.Required h = h
 
-facility_count : (m : Meters) (b : ℕ) (what : What) (side : Side) → (meter_of (facility_meters_of m b what) side).count ≡ (meter_of m side).count
+facility_count : (m : BySide Meter) (b : ℕ) (what : What) (side : Side) → (meter_of (facility_meters_of m b what) side).count ≡ (meter_of m side).count
 facility_count m b What.Preferred side = refl
 facility_count m b What.Accept side = granted_count m b side
 facility_count m b What.Reject side = refl
 facility_count m b What.Required side = refl
 
-failed_same : (f f' : Fates) → failure_of f'.one ≡ failure_of f.one → failure_of f'.two ≡ failure_of f.two → failure_of f'.three ≡ failure_of f.three → failed_of f' ≡ failed_of f
+failed_same : (f f' : ByService Fate) → failure_of f'.one ≡ failure_of f.one → failure_of f'.two ≡ failure_of f.two → failure_of f'.three ≡ failure_of f.three → failed_of f' ≡ failed_of f
 unfolding failed_of
 failed_same f f' a b c = rw (a, b, c) refl
 
@@ -400,12 +397,12 @@ module _ (c d : Call) (u : up_of c.phase ≡ true) (b : Below c d) where
   seen_same : (l : List ℕ) → seen_of l d.rights.limit ≡ seen_of l c.rights.limit
   seen_same l = ap (seen_of l) b.rights.limit
 
-  moved : (m n : Meters) → Poor two_from (in_force_of c.standings.three) m n → Below (meters_of c m) (meters_of d n)
+  moved : (m n : BySide Meter) → Poor two_from (in_force_of c.standings.three) m n → Below (meters_of c m) (meters_of d n)
   unfolding meters_of
   moved m n p =
       record { phase = b.phase; rights = b.rights; one = b.one; two = b.two; three = b.three; meters = p }
 
-  moved_stage : (m n : Meters) → Poor two_from (in_force_of c.standings.three) m n → Stage (meters_of c m) (meters_of d n)
+  moved_stage : (m n : BySide Meter) → Poor two_from (in_force_of c.standings.three) m n → Stage (meters_of c m) (meters_of d n)
   unfolding meters_of
   moved_stage m n p = going u (moved m n p)
 
@@ -459,12 +456,12 @@ module _ (c d : Call) (u : up_of c.phase ≡ true) (b : Below c d) where
       }
 
   -- DISCONNECT
-  closed : (side : Side) (cause : ℕ) (a : Answers) (seen : Seen) → Both (passed_on_of c side cause a seen) (passed_on_of d side cause a seen)
+  closed : (side : Side) (cause : ℕ) (a : ByService Given) (seen : Seen) → Both (passed_on_of c side cause a seen) (passed_on_of d side cause a seen)
   unfolding passed_on_of closed_call_of saying_of goes_out_of
   closed side cause a seen =
       replies side _ _ _ _ _ _ _ _ _ _ _ _ (over refl) (λ x. x) (λ x. and_right (whole_of seen) _ _ (closing_up _ _ a.one b.one) x)
 
-  disconnected : (side : Side) (cause : ℕ) (a : Answers) (l : List ℕ) → Both (passed_on_of c side cause a (seen_of l c.rights.limit)) (passed_on_of d side cause a (seen_of l d.rights.limit))
+  disconnected : (side : Side) (cause : ℕ) (a : ByService Given) (l : List ℕ) → Both (passed_on_of c side cause a (seen_of l c.rights.limit)) (passed_on_of d side cause a (seen_of l d.rights.limit))
   disconnected side cause a l = rw (seen_same l) (closed side cause a _)
 
   -- FACILITY
@@ -530,7 +527,7 @@ module _ (c d : Call) (u : up_of c.phase ≡ true) (b : Below c d) where
       replies side _ _ _ _ _ _ _ _ _ _ _ _ (facility_stage side what b.three) (λ x. never x (about _ _)) (λ x. never x (about _ _))
 
   -- ALERTING and CONNECT
-  outcome : (kind : Kind) (next : Phase) (f f' : Fates) (seen : Seen) (x : Bool) → up_of next ≡ true → Below (answered_call_of c next f) (answered_call_of d next f') → Both (answering_of c kind next f seen x) (answering_of d kind next f' seen x)
+  outcome : (kind : Kind) (next : Phase) (f f' : ByService Fate) (seen : Seen) (x : Bool) → up_of next ≡ true → Below (answered_call_of c next f) (answered_call_of d next f') → Both (answering_of c kind next f seen x) (answering_of d kind next f' seen x)
   unfolding goes_on_of clears_of answered_call_of in_phase_of saying_of bare_of goes_out_of
   outcome kind next f f' seen false v k =
       record {
@@ -541,11 +538,11 @@ module _ (c d : Call) (u : up_of c.phase ≡ true) (b : Below c d) where
   outcome kind next f f' seen true v k =
       from_silent _ _ (record { phase = refl; calling = refl; called = refl })
 
-  answered : (kind : Kind) (next : Phase) (f f' : Fates) (l : List ℕ) → up_of next ≡ true → failed_of f' ≡ failed_of f → Below (answered_call_of c next f) (answered_call_of d next f') → Both (answered_of c kind next f l) (answered_of d kind next f' l)
+  answered : (kind : Kind) (next : Phase) (f f' : ByService Fate) (l : List ℕ) → up_of next ≡ true → failed_of f' ≡ failed_of f → Below (answered_call_of c next f) (answered_call_of d next f') → Both (answered_of c kind next f l) (answered_of d kind next f' l)
   unfolding answered_of
   answered kind next f f' l v e k = rw (seen_same l, e) (outcome kind next f f' _ (failed_of f) v k)
 
-  alerted_below : (a : Answers) → c.phase ≡ Phase.Requested → Below (answered_call_of c Phase.Alerting (alerting_fates_of c.standings a)) (answered_call_of d Phase.Alerting (alerting_fates_of d.standings a))
+  alerted_below : (a : ByService Given) → c.phase ≡ Phase.Requested → Below (answered_call_of c Phase.Alerting (alerting_fates_of c.standings a)) (answered_call_of d Phase.Alerting (alerting_fates_of d.standings a))
   unfolding answered_call_of alerting_fates_of settles_of
   alerted_below a e =
       record {
@@ -557,13 +554,13 @@ module _ (c d : Call) (u : up_of c.phase ≡ true) (b : Below c d) where
         meters = λ side. weaker (two_from side) _ _ _ _ (λ _. rw e refl) (b.meters side);
       }
 
-  alerted : (a : Answers) (l : List ℕ) → c.phase ≡ Phase.Requested → Both (answered_of c Kind.Alerting Phase.Alerting (alerting_fates_of c.standings a) l) (answered_of d Kind.Alerting Phase.Alerting (alerting_fates_of d.standings a) l)
+  alerted : (a : ByService Given) (l : List ℕ) → c.phase ≡ Phase.Requested → Both (answered_of c Kind.Alerting Phase.Alerting (alerting_fates_of c.standings a) l) (answered_of d Kind.Alerting Phase.Alerting (alerting_fates_of d.standings a) l)
   unfolding alerting_fates_of
   alerted a l e =
       answered Kind.Alerting Phase.Alerting (alerting_fates_of c.standings a) (alerting_fates_of d.standings a) l refl
       (failed_same (alerting_fates_of c.standings a) (alerting_fates_of d.standings a) (twin_decided _ _ a.one b.one).failure (twin_decided _ _ a.two b.two).failure refl) (alerted_below a e)
 
-  module _ (came : Bool) (a : Answers) (k : (side : Side) → counts_of Phase.Active (in_force_of (settled_of c.standings.two (cond came Fate.Kept (decided_of c.standings.two Given.Silent)))) (late_of side c.rights.late) ≡ true → two_from side ≡ true) where
+  module _ (came : Bool) (a : ByService Given) (k : (side : Side) → counts_of Phase.Active (in_force_of (settled_of c.standings.two (cond came Fate.Kept (decided_of c.standings.two Given.Silent)))) (late_of side c.rights.late) ≡ true → two_from side ≡ true) where
     connected_below : Below (answered_call_of c Phase.Active (connect_fates_of came c.standings a)) (answered_call_of d Phase.Active (connect_fates_of came d.standings a))
     unfolding answered_call_of connect_fates_of settles_of
     connected_below =
@@ -587,7 +584,7 @@ module _ (c d : Call) (u : up_of c.phase ≡ true) (b : Below c d) where
         (twin_decided _ _ a.three (above_third _ _ _ _ _ b.three)).failure)
         connected_below
 
-  connected : (a : Answers) (l : List ℕ) → connectable_of c.phase ≡ true → Both (answered_of c Kind.Connect Phase.Active (connect_fates_of (not (requested_of c.phase)) c.standings a) l) (answered_of d Kind.Connect Phase.Active (connect_fates_of (not (requested_of d.phase)) d.standings a) l)
+  connected : (a : ByService Given) (l : List ℕ) → connectable_of c.phase ≡ true → Both (answered_of c Kind.Connect Phase.Active (connect_fates_of (not (requested_of c.phase)) c.standings a) l) (answered_of d Kind.Connect Phase.Active (connect_fates_of (not (requested_of d.phase)) d.standings a) l)
   connected a l h =
       let came : not (requested_of d.phase) ≡ not (requested_of c.phase) = ap (λ p. not (requested_of p)) b.phase in
       rw came (connected_by (not (requested_of c.phase)) a (λ side x. came_counts c.phase c.standings.two _ h x) l)
@@ -600,7 +597,7 @@ module _ (r r' : Rights) (n : NoLess r r') where
   fits_same : (b : Bool) → (b && rights_fit_of r') ≡ (b && rights_fit_of r)
   fits_same b = rw ((rights_range r').back n.second, (rights_range r).back n.first) refl
 
-  setup : (reference : ℕ) (q : Requests) (l : List ℕ) → Both (proceeds_of reference r q (seen_of l r.limit)) (proceeds_of reference r' q (seen_of l r'.limit))
+  setup : (reference : ℕ) (q : ByService Request) (l : List ℕ) → Both (proceeds_of reference r q (seen_of l r.limit)) (proceeds_of reference r' q (seen_of l r'.limit))
   setup reference q l =
       let s : seen_of l r'.limit ≡ seen_of l r.limit = ap (seen_of l) n.limit in
       rw s (setup_by r r' n reference q _ _ refl)
@@ -659,15 +656,15 @@ in_step c d (early h h') u = h' ∙ sym h
 in_step c d (going v b) u = b.phase
 in_step c d (over h) u = never ((up c.phase).back u) (shut c.phase h).5
 
-handed_is : (s : Sent) (l : List ℕ) → handed_in s l ≡ cond (carries_of s) l []
-handed_is Sent.Absent l = refl
-handed_is (Sent.Present m) l = refl
+handed_is : (s : Option Message) (l : List ℕ) → handed_in s l ≡ cond (carries_of s) l []
+handed_is None l = refl
+handed_is (Some m) l = refl
 
 kept_cond : (b b' : Bool) (l : List ℕ) → (b ≡ true → b' ≡ true) → (cond b l [] ≡ [] → ⊥) → cond b' l [] ≡ cond b l []
 kept_cond true b' l f h = rw (f refl) refl
 kept_cond false b' l f h = absurd (h refl)
 
-kept : (s t : Sent) (l : List ℕ) → Gives s t → HandedToo (handed_in s l) (handed_in t l)
+kept : (s t : Option Message) (l : List ℕ) → Gives s t → HandedToo (handed_in s l) (handed_in t l)
 kept s t l f h = handed_is t l ∙ (kept_cond _ _ l f (λ e. h (handed_is s l ∙ e)) ∙ sym (handed_is s l))
 
 module _ (r r' : Rights) (n : NoLess r r') where

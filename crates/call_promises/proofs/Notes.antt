@@ -1,4 +1,5 @@
 -- The note is that of the first row that applies.
+use Rattle.services.specs.declared.ByService.{ByService}
 use Prim.Native.Nat.{ℕ}
 use mathlib.Core.List.{List}
 use mathlib.Core.Bool.{Bool, true, false, cond, ◌&&◌, not, true≢false}
@@ -14,12 +15,9 @@ use Rattle.user_element.specs.declared.Note.{Note}
 use Rattle.user_element.specs.declared.Seen.{Seen}
 use Rattle.rights.specs.declared.Rights.{Rights}
 use Rattle.rights.specs.declared.Service.{Service}
-use Rattle.services.specs.declared.Answers.{Answers}
 use Rattle.answering_rules.specs.declared.Fate.{Fate}
-use Rattle.answering_rules.specs.declared.Fates.{Fates}
 use Rattle.services.specs.declared.Given.{Given}
 use Rattle.services.specs.declared.Request.{Request}
-use Rattle.services.specs.declared.Requests.{Requests}
 use Rattle.services.specs.declared.Standing.{Standing}
 use Rattle.answer.specs.declared.Answer.{Answer}
 use Rattle.message_types.specs.declared.Kind.{Kind}
@@ -110,7 +108,7 @@ lacking r k Request.Unasked = record { so = λ h. never h refl; back = λ x. abs
 lacking r k Request.Preferred = record { so = λ h. never h refl; back = λ x. absurd (let z : ◌≡◌ {A = ℕ} 0 1 = cc x.0 in omega arith) }
 lacking r k Request.Required = via (λ n. (refl, n)) (λ x. x.1) (neither _ (has r k))
 
-pub lacks : (r : Rights) (q : Requests) → Decides (lacks_of r q) (LacksRequired r q)
+pub lacks : (r : Rights) (q : ByService Request) → Decides (lacks_of r q) (LacksRequired r q)
 unfolding lacks_of
 lacks r q =
     via (⊎_elim (⊎_elim (λ x. inl x) (λ x. inr (inl x))) (λ x. inr (inr x)))
@@ -127,7 +125,7 @@ remains Request.Preferred false = refl
 remains Request.Required true = refl
 remains Request.Required false = refl
 
-pub setup_carries : (c : Call) (reference : ℕ) (r : Rights) (q : Requests) (s : Seen) → s ≡ Seen.Whole → Denies (setup_carries_of r q s) (NotCarried c (Event.Setup reference r q))
+pub setup_carries : (c : Call) (reference : ℕ) (r : Rights) (q : ByService Request) (s : Seen) → s ≡ Seen.Whole → Denies (setup_carries_of r q s) (NotCarried c (Event.Setup reference r q))
 unfolding setup_carries_of standings_of
 setup_carries c reference r q s e = rw (e, remains) (stops _ _ (lacks r q) (has r Service.One))
 
@@ -183,10 +181,10 @@ due_comes true s g d = via (⊎_elim (λ i. inl i) (λ x. inr (d.so refl, x.0, x
 due_comes false s g d = via (λ i. inl i) (⊎_elim (λ i. i) (λ x. never (d.back x.0) refl)) (in_force s)
 
 -- the note on an answering message
-unfoldable pub carries_of : Standing → Fates → Bool
+unfoldable pub carries_of : Standing → ByService Fate → Bool
 carries_of s f = not (failed_of f) && in_force_of (settled_of s f.one)
 
-module _ (c : Call) (kind : Kind) (next : Phase) (f : Fates) where
+module _ (c : Call) (kind : Kind) (next : Phase) (f : ByService Fate) where
   outcome_note : (seen : Seen) (x : Bool) → (answering_of c kind next f seen x).note ≡ noted_of seen (not x && in_force_of (settled_of c.standings.one f.one))
   unfolding goes_on_of clears_of answered_call_of settles_of
   outcome_note seen false = refl
@@ -196,7 +194,7 @@ module _ (c : Call) (kind : Kind) (next : Phase) (f : Fates) where
   unfolding answered_of carries_of
   answered_note l = outcome_note _ (failed_of f)
 
-pub alerting_carries : (c : Call) (a : Answers) → Denies (carries_of c.standings.one (alerting_fates_of c.standings a)) (NotCarried c (Event.Alerting a))
+pub alerting_carries : (c : Call) (a : ByService Given) → Denies (carries_of c.standings.one (alerting_fates_of c.standings a)) (NotCarried c (Event.Alerting a))
 unfolding carries_of alerting_fates_of failed_of
 alerting_carries c a =
     stops _ _
@@ -207,7 +205,7 @@ alerting_carries c a =
 unanswered : Given.Silent ≡ Given.Accepted → ⊥
 unanswered e = let z : ◌≡◌ {A = ℕ} 0 1 = cc in omega arith
 
-pub connect_carries : (c : Call) (a : Answers) → Denies (carries_of c.standings.one (connect_fates_of (not (requested_of c.phase)) c.standings a)) (NotCarried c (Event.Connect a))
+pub connect_carries : (c : Call) (a : ByService Given) → Denies (carries_of c.standings.one (connect_fates_of (not (requested_of c.phase)) c.standings a)) (NotCarried c (Event.Connect a))
 unfolding carries_of connect_fates_of failed_of
 connect_carries c a =
     let r = requested c.phase in
@@ -244,7 +242,7 @@ closing_comes s Given.Accepted =
 closing_comes s Given.Rejected =
     via (λ i. inl i) (⊎_elim (λ i. i) (λ x. absurd (let z : ◌≡◌ {A = ℕ} 0 1 = cc x.1 in omega arith))) (in_force s)
 
-pub disconnect_comes : (side : Side) (s : Standing) (a : Answers) → Decides (in_force_of (closing_standing_of s (heard_answers_of side a).one)) (Comes (side ≡ Side.Called) s a.one)
+pub disconnect_comes : (side : Side) (s : Standing) (a : ByService Given) → Decides (in_force_of (closing_standing_of s (heard_answers_of side a).one)) (Comes (side ≡ Side.Called) s a.one)
 unfolding silent_answers
 disconnect_comes Side.Calling s a =
     via (λ i. inl i) (⊎_elim (λ i. i) (λ x. absurd (let z : ◌≡◌ {A = ℕ} 0 1 = cc x.0 in omega arith))) (in_force s)

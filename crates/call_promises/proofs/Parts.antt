@@ -1,5 +1,6 @@
 -- The parts of a step, each with the paper's condition for it: what lets an event through, what rides with a message,
 -- what the answers make of a service, what a message meets in its meter, what FACILITY is answered.
+use Rattle.services.specs.declared.ByService.{ByService}
 use Prim.Native.Nat.{ℕ, ◌≤◌}
 use mathlib.Core.List.{List}
 use mathlib.Core.Bool.{Bool, true, false, cond, ◌||◌, not}
@@ -9,11 +10,9 @@ use native.Mathlib.Omega.{arith}
 use borrow.Author.Tests.{ltb-true, ltb-false}
 use lib.Dec.{ltb, eqb}
 use Rattle.rights.specs.declared.Service.{Service}
-use Rattle.services.specs.declared.Answers.{Answers}
 use Rattle.services.specs.declared.Given.{Given}
 use Rattle.services.specs.declared.Said.{Said}
 use Rattle.services.specs.declared.Standing.{Standing}
-use Rattle.services.specs.declared.Standings.{Standings}
 use Rattle.user_element.specs.declared.Note.{Note}
 use Rattle.user_element.specs.declared.Seen.{Seen}
 use Rattle.user_element.specs.Element.{goes_out_of}
@@ -111,7 +110,7 @@ not_three e = let z : ◌≡◌ {A = ℕ} 0 1 = cc e in omega arith
 pub nor_three : Service.Two ≡ Service.Three → ⊥
 nor_three e = let z : ◌≡◌ {A = ℕ} 0 1 = cc e in omega arith
 
-module _ (p : Phase) (s : Standings) (a : Answers) where
+module _ (p : Phase) (s : ByService Standing) (a : ByService Given) where
   same : (k : Service) (g h : Given) → Due p (Event.Alerting a) k g → Due p (Event.Alerting a) k h → g ≡ h
   same k g h (ringing n e) (ringing n' e') = sym e ∙ e'
 

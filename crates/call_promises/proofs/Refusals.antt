@@ -1,4 +1,6 @@
 -- A refusal leaves the record and sends nothing, but for 14 and 16.
+use Rattle.services.specs.declared.ByService.{ByService}
+use Rattle.answering_rules.specs.declared.Fate.{Fate}
 use Prim.Native.Nat.{ℕ}
 use mathlib.Core.List.{List}
 use mathlib.Core.Bool.{Bool, true, false, ◌&&◌}
@@ -10,7 +12,6 @@ use lib.Dec.{ltb}
 use Rattle.flow_meter.specs.declared.passage.Passage.{Passage}
 use Rattle.user_element.specs.declared.Note.{Note}
 use Rattle.user_element.specs.declared.Seen.{Seen}
-use Rattle.answering_rules.specs.declared.Fates.{Fates}
 use Rattle.answer.specs.declared.Answer.{Answer}
 use Rattle.facility_rules.specs.declared.What.{What}
 use Rattle.message_types.specs.declared.Kind.{Kind}
@@ -67,12 +68,12 @@ module _ (c : Call) (e : Event) where
   heard_fair a g r (through _ _ _) f = f
   heard_fair a g r (barred x) f = bar_fair x
 
-outcome_taken : (c : Call) (kind : Kind) (next : Phase) (f : Fates) (seen : Seen) (x : Bool) → (answering_of c kind next f seen x).answer ≡ Answer.Taken
+outcome_taken : (c : Call) (kind : Kind) (next : Phase) (f : ByService Fate) (seen : Seen) (x : Bool) → (answering_of c kind next f seen x).answer ≡ Answer.Taken
 unfolding goes_on_of clears_of
 outcome_taken c kind next f seen false = refl
 outcome_taken c kind next f seen true = refl
 
-pub answered_taken : (c : Call) (kind : Kind) (next : Phase) (f : Fates) (l : List ℕ) → (answered_of c kind next f l).answer ≡ Answer.Taken
+pub answered_taken : (c : Call) (kind : Kind) (next : Phase) (f : ByService Fate) (l : List ℕ) → (answered_of c kind next f l).answer ≡ Answer.Taken
 unfolding answered_of
 answered_taken c kind next f l = outcome_taken c kind next f _ (failed_of f)
 

@@ -1,4 +1,5 @@
 -- A call that is Active has its required services.
+use Rattle.services.specs.declared.ByService.{ByService}
 use Prim.Native.Nat.{ℕ}
 use mathlib.Core.List.{List, [], ◌∷◌, ◌++◌}
 use mathlib.Core.Bool.{Bool, true, false, ◌||◌, not}
@@ -8,12 +9,9 @@ use native.Mathlib.Omega.{arith}
 use Rattle.user_element.specs.declared.Seen.{Seen}
 use Rattle.rights.specs.declared.Rights.{Rights}
 use Rattle.rights.specs.declared.Service.{Service}
-use Rattle.services.specs.declared.Answers.{Answers}
 use Rattle.answering_rules.specs.declared.Fate.{Fate}
-use Rattle.answering_rules.specs.declared.Fates.{Fates}
 use Rattle.services.specs.declared.Given.{Given}
 use Rattle.services.specs.declared.Request.{Request}
-use Rattle.services.specs.declared.Requests.{Requests}
 use Rattle.services.specs.declared.Standing.{Standing}
 use Rattle.answer.specs.declared.Answer.{Answer}
 use Rattle.facility_rules.specs.declared.What.{What}
@@ -77,10 +75,10 @@ or_false : (a b : Bool) → (a || b) ≡ false → (a ≡ false) × (b ≡ false
 or_false true b h = never refl h
 or_false false b h = (refl, h)
 
-abbrev lack_of : Rights → Requests → Service → Bool
+abbrev lack_of : Rights → ByService Request → Service → Bool
 lack_of rights q k = lacking_of (request_for q k) (has_of rights k)
 
-pub lacks_false : (rights : Rights) (q : Requests) (k : Service) → lacks_of rights q ≡ false → lack_of rights q k ≡ false
+pub lacks_false : (rights : Rights) (q : ByService Request) (k : Service) → lacks_of rights q ≡ false → lack_of rights q k ≡ false
 unfolding lacks_of
 lacks_false rights q k h = let t = or_false (lack_of rights q Service.One || lack_of rights q Service.Two) _ h in each k (or_false (lack_of rights q Service.One) _ t.0) t.1
   where
@@ -93,31 +91,31 @@ had_required : (q : Request) (had : Bool) → q ≡ Request.Required → lacking
 had_required q true e h = rw e refl
 had_required q false e h = never (rw e refl) h
 
-asked_standing : (reference : ℕ) (rights : Rights) (q : Requests) (seen : Seen) (k : Service) → request_for q k ≡ Request.Required → lack_of rights q k ≡ false → standing_for (proceeds_of reference rights q seen).call.standings k ≡ Standing.Required
+asked_standing : (reference : ℕ) (rights : Rights) (q : ByService Request) (seen : Seen) (k : Service) → request_for q k ≡ Request.Required → lack_of rights q k ≡ false → standing_for (proceeds_of reference rights q seen).call.standings k ≡ Standing.Required
 unfolding proceeds_of standings_of first_standing_of
 asked_standing reference rights q seen Service.One e h = rw e (rw e at (had_required _ _ e h))
 asked_standing reference rights q seen Service.Two e h = had_required _ _ e h
 asked_standing reference rights q seen Service.Three e h = had_required _ _ e h
 
-setup_due : (reference : ℕ) (rights : Rights) (q : Requests) (seen : Seen) (k : Service) → request_for q k ≡ Request.Required → DueIn k (proceeds_of reference rights q seen).call
+setup_due : (reference : ℕ) (rights : Rights) (q : ByService Request) (seen : Seen) (k : Service) → request_for q k ≡ Request.Required → DueIn k (proceeds_of reference rights q seen).call
 unfolding proceeds_of setup_phase_of
 setup_due reference rights q seen k e =
     by_cond (λ p. Due k p (standing_for (proceeds_of reference rights q seen).call.standings k)) (lacks_of rights q) (λ _. tt)
     (λ h. asked_standing reference rights q seen k e (lacks_false rights q k h))
 
 -- ALERTING and CONNECT
-abbrev pub fate_for : Fates → Service → Fate
+abbrev pub fate_for : ByService Fate → Service → Fate
 fate_for f Service.One = f.one
 fate_for f Service.Two = f.two
 fate_for f Service.Three = f.three
 
-pub settled_for : (c : Call) (next : Phase) (f : Fates) (k : Service) → standing_for (answered_call_of c next f).standings k ≡ settled_of (standing_for c.standings k) (fate_for f k)
+pub settled_for : (c : Call) (next : Phase) (f : ByService Fate) (k : Service) → standing_for (answered_call_of c next f).standings k ≡ settled_of (standing_for c.standings k) (fate_for f k)
 unfolding answered_call_of settles_of
 settled_for c next f Service.One = refl
 settled_for c next f Service.Two = refl
 settled_for c next f Service.Three = refl
 
-none_fails : (f : Fates) (k : Service) → failed_of f ≡ false → failure_of (fate_for f k) ≡ false
+none_fails : (f : ByService Fate) (k : Service) → failed_of f ≡ false → failure_of (fate_for f k) ≡ false
 unfolding failed_of
 none_fails f Service.One h = (or_false _ _ (or_false (failure_of f.one || failure_of f.two) _ h).0).0
 none_fails f Service.Two h = (or_false (failure_of f.one) _ (or_false (failure_of f.one || failure_of f.two) _ h).0).1
@@ -131,7 +129,7 @@ accepted Given.Rejected h = never refl h
 comes : (s : Standing) (g : Given) → s ≡ Standing.Required → failure_of (decided_of s g) ≡ false → InForce (settled_of s (decided_of s g))
 comes s g e h = rw (e, accepted g (rw e at h)) refl
 
-module _ (c : Call) (a : Answers) where
+module _ (c : Call) (a : ByService Given) where
   alerting_due : (k : Service) → standing_for c.standings k ≡ Standing.Required → failure_of (fate_for (alerting_fates_of c.standings a) k) ≡ false → AtAlerting k (settled_of (standing_for c.standings k) (fate_for (alerting_fates_of c.standings a) k))
   unfolding alerting_fates_of
   alerting_due Service.One e h = comes _ _ e h
@@ -148,12 +146,12 @@ module _ (c : Call) (a : Answers) where
   connect_due false Service.Three r w h = comes _ _ (r refl) h
 
 module _ (k : Service) (c : Call) where
-  outcome_due : (kind : Kind) (next : Phase) (f : Fates) (seen : Seen) (x : Bool) → (x ≡ false → Due k next (settled_of (standing_for c.standings k) (fate_for f k))) → DueIn k (answering_of c kind next f seen x).call
+  outcome_due : (kind : Kind) (next : Phase) (f : ByService Fate) (seen : Seen) (x : Bool) → (x ≡ false → Due k next (settled_of (standing_for c.standings k) (fate_for f k))) → DueIn k (answering_of c kind next f seen x).call
   unfolding goes_on_of clears_of in_phase_of answered_call_of
   outcome_due kind next f seen false w = rw settled_for (w refl)
   outcome_due kind next f seen true w = tt
 
-  answered_due : (kind : Kind) (next : Phase) (f : Fates) (l : List ℕ) → (failure_of (fate_for f k) ≡ false → Due k next (settled_of (standing_for c.standings k) (fate_for f k))) → DueIn k (answered_of c kind next f l).call
+  answered_due : (kind : Kind) (next : Phase) (f : ByService Fate) (l : List ℕ) → (failure_of (fate_for f k) ≡ false → Due k next (settled_of (standing_for c.standings k) (fate_for f k))) → DueIn k (answered_of c kind next f l).call
   unfolding answered_of
   answered_due kind next f l w = outcome_due kind next f _ (failed_of f) (λ h. w (none_fails f k h))
 
@@ -240,12 +238,12 @@ lack rights k q x h = x.1 ((has rights k).so (not_false _ (rw x.0 at h)))
     not_false true h = refl
     not_false false h = never refl h
 
-lacks : (rights : Rights) (q : Requests) → LacksRequired rights q → lacks_of rights q ≡ false → ⊥
+lacks : (rights : Rights) (q : ByService Request) → LacksRequired rights q → lacks_of rights q ≡ false → ⊥
 lacks rights q (inl x) h = lack rights Service.One _ x (lacks_false rights q Service.One h)
 lacks rights q (inr (inl x)) h = lack rights Service.Two _ x (lacks_false rights q Service.Two h)
 lacks rights q (inr (inr x)) h = lack rights Service.Three _ x (lacks_false rights q Service.Three h)
 
-setup_fails : (reference : ℕ) (rights : Rights) (q : Requests) (seen : Seen) → LacksRequired rights q → (proceeds_of reference rights q seen).call.phase ≡ Phase.Ended
+setup_fails : (reference : ℕ) (rights : Rights) (q : ByService Request) (seen : Seen) → LacksRequired rights q → (proceeds_of reference rights q seen).call.phase ≡ Phase.Ended
 unfolding proceeds_of setup_phase_of
 setup_fails reference rights q seen x =
     by_cond (λ p. p ≡ Phase.Ended) (lacks_of rights q) (λ _. refl) (λ h. absurd (lacks rights q x h))
@@ -253,7 +251,7 @@ setup_fails reference rights q seen x =
 fails : (s : Standing) (g : Given) → Fails s g → failure_of (decided_of s g) ≡ false → ⊥
 fails s g x h = x.1 (accepted g (rw x.0 at h))
 
-module _ (c : Call) (kind : Kind) (next : Phase) (f : Fates) where
+module _ (c : Call) (kind : Kind) (next : Phase) (f : ByService Fate) where
   outcome_fails : (seen : Seen) (x : Bool) → (x ≡ false → ⊥) → (answering_of c kind next f seen x).call.phase ≡ Phase.Clearing
   unfolding clears_of in_phase_of
   outcome_fails seen false n = absurd (n refl)
@@ -263,7 +261,7 @@ module _ (c : Call) (kind : Kind) (next : Phase) (f : Fates) where
   unfolding answered_of
   answered_fails l k n = outcome_fails _ (failed_of f) (λ h. n (none_fails f k h))
 
-module _ (c : Call) (a : Answers) (l : List ℕ) where
+module _ (c : Call) (a : ByService Given) (l : List ℕ) where
   alerting_fails : AlertingFails c.standings a → (answered_of c Kind.Alerting Phase.Alerting (alerting_fates_of c.standings a) l).call.phase ≡ Phase.Clearing
   unfolding alerting_fates_of
   alerting_fails (inl x) = answered_fails c _ _ _ l Service.One (fails _ _ x)

@@ -1,19 +1,18 @@
 -- What each user is sent is what the sentences say, and nothing else.
+use Rattle.std.specs.Prelude.{Option, Some, None}
+use Rattle.services.specs.declared.ByService.{ByService}
+use Rattle.answering_rules.specs.declared.Fate.{Fate}
 use Prim.Native.Nat.{ℕ}
 use mathlib.Core.List.{List}
 use mathlib.Core.Bool.{Bool, true, false, ◌&&◌, ◌||◌, not}
 use mathlib.Core.Logic.{inl, inr, ⊎_elim}
 use mathlib.Core.Path.{◌≡◌, refl, sym, ◌∙◌, ap, subst}
 use native.Mathlib.Omega.{arith}
-use Rattle.cause.specs.declared.Cause.{Cause}
 use Rattle.rights.specs.declared.Rights.{Rights}
 use Rattle.rights.specs.declared.Service.{Service}
 use Rattle.rights.specs.Rights.{has_of}
-use Rattle.services.specs.declared.Answers.{Answers}
-use Rattle.services.specs.declared.Facilities.{Facilities}
 use Rattle.services.specs.declared.Given.{Given}
 use Rattle.services.specs.declared.Request.{Request}
-use Rattle.services.specs.declared.Requests.{Requests}
 use Rattle.services.specs.declared.Said.{Said}
 use Rattle.services.specs.declared.Standing.{Standing}
 use Rattle.services.specs.Standing.{in_force_of, awaits_of}
@@ -27,14 +26,11 @@ use Rattle.phases.specs.declared.Phase.{Phase}
 use Rattle.phases.specs.Phase.{requested_of}
 use Rattle.sent.specs.declared.Level.{Level}
 use Rattle.sent.specs.declared.Message.{Message}
-use Rattle.sent.specs.declared.Sent.{Sent}
-use Rattle.sent.specs.declared.dispatch.Carrier.{Carrier}
 use Rattle.sent.specs.declared.side.Side.{Side}
 use Rattle.sent.specs.Message.{silence, saying_of, bare_of, congestion_of, informs_of, only_if_of}
 use Rattle.event.specs.declared.Event.{Event}
 use Rattle.facility_rules.specs.declared.What.{What}
 use Rattle.facility_rules.specs.Messages.{facility_said_of, about_three_of, to_asker_of, to_other_of, not_granted_of}
-use Rattle.answering_rules.specs.declared.Fates.{Fates}
 use Rattle.answering_rules.specs.Fates.{alerting_fates_of, connect_fates_of}
 use Rattle.answering_rules.specs.Effects.{told_of, declined_of, settled_of, failed_of, settles_of, tells_of, declines_of}
 use Rattle.clearing_rules.specs.Closing.{rejection_of, closing_said_of, silent_answers, heard_answers_of, closing_facilities_of}
@@ -73,20 +69,20 @@ use Rattle.call_promises.proofs.Parts.{Let, through, stopped, let_through, Tests
 -- ---- a message and the sentence that sends it
 
 -- the message of a sent one
-abbrev within : Message → Sent → Message
-within d Sent.Absent = d
-within d (Sent.Present m) = m
+abbrev within : Message → Option Message → Message
+within d None = d
+within d (Some m) = m
 
-told_by : {P : Message → Type 0} {s : Sent} (m : Message) → s ≡ Sent.Present m → P m → ((n : Message) → P n → m ≡ n) → IsWhatIsSent P s
-told_by {P} m e p u n = ((λ h. subst P (ap (within m) (sym e ∙ h)) p), (λ x. e ∙ ap Sent.Present (u n x)))
+told_by : {P : Message → Type 0} {s : Option Message} (m : Message) → s ≡ Some m → P m → ((n : Message) → P n → m ≡ n) → IsWhatIsSent P s
+told_by {P} m e p u n = ((λ h. subst P (ap (within m) (sym e ∙ h)) p), (λ x. e ∙ ap Some (u n x)))
 
-none_sent : {m : Message} → Sent.Absent ≡ Sent.Present m → ⊥
+none_sent : {m : Message} → None ≡ Some m → ⊥
 none_sent {m} e = let z : ◌≡◌ {A = ℕ} 0 1 = cc in omega arith
 
-told_none : {P : Message → Type 0} {s : Sent} → s ≡ Sent.Absent → ((n : Message) → P n → ⊥) → IsWhatIsSent P s
+told_none : {P : Message → Type 0} {s : Option Message} → s ≡ None → ((n : Message) → P n → ⊥) → IsWhatIsSent P s
 told_none e f n = ((λ h. absurd (none_sent (sym e ∙ h))), (λ x. absurd (f n x)))
 
-unheard : (c : Call) (e : Event) (l : List ℕ) (side : Side) (a g : Bool) → (sound_of c ≡ true → a ≡ true → g ≡ true → ⊥) → Tests c e a g → IsWhatIsSent (λ m. Hears c e × Sends c l e side m) Sent.Absent
+unheard : (c : Call) (e : Event) (l : List ℕ) (side : Side) (a g : Bool) → (sound_of c ≡ true → a ≡ true → g ≡ true → ⊥) → Tests c e a g → IsWhatIsSent (λ m. Hears c e × Sends c l e side m) None
 unheard c e l side a g n x =
     told_none {P = λ m. Hears c e × Sends c l e side m} refl (λ k y. let t = x.back y.0 in n t.0 t.1 t.2)
 
@@ -98,7 +94,7 @@ let_told c e l Side.Calling a g r (stopped n b) x f m = unheard c e l Side.Calli
 let_told c e l Side.Called a g r (stopped n b) x f m = unheard c e l Side.Called a g n x m
 
 -- a reply to one side's event
-reply_told : (P : Side → Message → Type 0) (side : Side) (d : Call) (a : Answer) (note : Note) (back far : Sent) (x : Carrier) → IsWhatIsSent (P side) back → IsWhatIsSent (P (other side)) far → (to : Side) → IsWhatIsSent (P to) (sent_to (reply_of side d a note back far x) to)
+reply_told : (P : Side → Message → Type 0) (side : Side) (d : Call) (a : Answer) (note : Note) (back far : Option Message) (x : Option Service) → IsWhatIsSent (P side) back → IsWhatIsSent (P (other side)) far → (to : Side) → IsWhatIsSent (P to) (sent_to (reply_of side d a note back far x) to)
 unfolding reply_of
 reply_told P Side.Calling d a note back far x p q Side.Calling = p
 reply_told P Side.Calling d a note back far x p q Side.Called = q
@@ -144,24 +140,24 @@ module _ (r : Rights) (k : Service) where
   remaining_one q (required e h) = rw (e, (has r k).back h) refl
   remaining_one q (gone f) = gone_one q f
 
-module _ (c : Call) (n : ℕ) (r : Rights) (q : Requests) (l : List ℕ) where
+module _ (c : Call) (n : ℕ) (r : Rights) (q : ByService Request) (l : List ℕ) where
   abbrev asked : Event
   asked = Event.Setup n r q
 
-  abbrev refusals : Kind → Cause → Message
+  abbrev refusals : Kind → Option ℕ → Message
   refusals kind cause =
       telling kind cause (network_refusal_of q.one (has_of r Service.One)) (network_refusal_of q.two (has_of r Service.Two))
       (network_refusal_of q.three (has_of r Service.Three)) false
 
-  released_one : LacksRequired r q → (m : Message) → Sends c l asked Side.Calling m → refusals Kind.ReleaseComplete (Cause.Value 50) ≡ m
+  released_one : LacksRequired r q → (m : Message) → Sends c l asked Side.Calling m → refusals Kind.ReleaseComplete (Some 50) ≡ m
   released_one y m (released x a b d) =
-      λ j. telling Kind.ReleaseComplete (Cause.Value 50) (denied_one r Service.One q.one a j) (denied_one r Service.Two q.two b j) (denied_one r Service.Three q.three d j) false
+      λ j. telling Kind.ReleaseComplete (Some 50) (denied_one r Service.One q.one a j) (denied_one r Service.Two q.two b j) (denied_one r Service.Three q.three d j) false
   released_one y m (proceeding x a b d) = absurd (x y)
 
-  proceeding_one : (LacksRequired r q → ⊥) → (m : Message) → Sends c l asked Side.Calling m → refusals Kind.CallProceeding Cause.Absent ≡ m
+  proceeding_one : (LacksRequired r q → ⊥) → (m : Message) → Sends c l asked Side.Calling m → refusals Kind.CallProceeding None ≡ m
   proceeding_one y m (released x a b d) = absurd (y x)
   proceeding_one y m (proceeding x a b d) =
-      λ j. telling Kind.CallProceeding Cause.Absent (denied_one r Service.One q.one a j) (denied_one r Service.Two q.two b j) (denied_one r Service.Three q.three d j) false
+      λ j. telling Kind.CallProceeding None (denied_one r Service.One q.one a j) (denied_one r Service.Two q.two b j) (denied_one r Service.Three q.three d j) false
 
   caller_told : IsWhatIsSent (Sends c l asked Side.Calling) (to_caller_of (lacks_of r q) (network_refusals_of r q))
   unfolding to_caller_of network_refusals_of saying_of
@@ -170,14 +166,14 @@ module _ (c : Call) (n : ℕ) (r : Rights) (q : Requests) (l : List ℕ) where
       let e = denied_is r Service.Two q.two in
       let f = denied_is r Service.Three q.three in
       by_cond (IsWhatIsSent (Sends c l asked Side.Calling)) (lacks_of r q)
-      (λ y. told_by (refusals Kind.ReleaseComplete (Cause.Value 50)) refl (released ((lacks r q).so y) d e f) (released_one ((lacks r q).so y)))
+      (λ y. told_by (refusals Kind.ReleaseComplete (Some 50)) refl (released ((lacks r q).so y) d e f) (released_one ((lacks r q).so y)))
       (λ y.
       let g = (denies _ (lacks r q)).so y in
-      told_by (refusals Kind.CallProceeding Cause.Absent) refl (proceeding g d e f) (proceeding_one g))
+      told_by (refusals Kind.CallProceeding None) refl (proceeding g d e f) (proceeding_one g))
 
   abbrev onward : Bool → Message
   onward b =
-      telling Kind.Setup Cause.Absent (passed_request_of q.one (has_of r Service.One)) (passed_request_of q.two (has_of r Service.Two))
+      telling Kind.Setup None (passed_request_of q.one (has_of r Service.One)) (passed_request_of q.two (has_of r Service.Two))
       (passed_request_of q.three (has_of r Service.Three)) b
 
   no_setup : LacksRequired r q → (m : Message) → Sends c l asked Side.Called m → ⊥
@@ -185,7 +181,7 @@ module _ (c : Call) (n : ℕ) (r : Rights) (q : Requests) (l : List ℕ) where
 
   setup_one : (b : Bool) → Flags b (Rides c asked l) → (m : Message) → Sends c l asked Side.Called m → onward b ≡ m
   setup_one b g m (setup x a s d f) =
-      λ j. telling Kind.Setup Cause.Absent (remaining_one r Service.One q.one a j) (remaining_one r Service.Two q.two s j) (remaining_one r Service.Three q.three d j) (one_flag g f j)
+      λ j. telling Kind.Setup None (remaining_one r Service.One q.one a j) (remaining_one r Service.Two q.two s j) (remaining_one r Service.Three q.three d j) (one_flag g f j)
 
   called_told : IsWhatIsSent (Sends c l asked Side.Called) (to_called_of (lacks_of r q) (passed_requests_of r q) (goes_out_of (seen_of l r.limit) (setup_carries_of r q (seen_of l r.limit))))
   unfolding to_called_of passed_requests_of saying_of
@@ -205,21 +201,21 @@ module _ (c : Call) (n : ℕ) (r : Rights) (q : Requests) (l : List ℕ) where
 
 -- ---- ALERTING and CONNECT
 
-module _ (c : Call) (l : List ℕ) (e : Event) (kind : Kind) (next : Phase) (f : Fates) where
+module _ (c : Call) (l : List ℕ) (e : Event) (kind : Kind) (next : Phase) (f : ByService Fate) where
   module _
       (one : View c.phase e Service.One c.standings.one f.one)
       (two : View c.phase e Service.Two c.standings.two f.two)
       (three : View c.phase e Service.Three c.standings.three f.three)
     where
       abbrev answers : Bool → Message
-      answers b = telling kind Cause.Absent (told_of f.one) (told_of f.two) (told_of f.three) b
+      answers b = telling kind None (told_of f.one) (told_of f.two) (told_of f.three) b
 
       abbrev rejections : Message
-      rejections = telling Kind.Disconnect (Cause.Value 69) (declined_of f.one) (declined_of f.two) (declined_of f.three) false
+      rejections = telling Kind.Disconnect (Some 69) (declined_of f.one) (declined_of f.two) (declined_of f.three) false
 
       on_one : ((k : Service) (g : Given) → FailsAt c e k g → ⊥) → (b : Bool) → Flags b (Rides c e l) → (m : Message) → Answering c l e kind Side.Calling m → answers b ≡ m
       on_one n b d m (on x s t u g) =
-          λ j. telling kind Cause.Absent ((settles_one c e Service.One one s).1 j) ((settles_one c e Service.Two two t).1 j) ((settles_one c e Service.Three three u).1 j) (one_flag d g j)
+          λ j. telling kind None ((settles_one c e Service.One one s).1 j) ((settles_one c e Service.Two two t).1 j) ((settles_one c e Service.Three three u).1 j) (one_flag d g j)
       on_one n b d m (clears x s t u) = absurd (n _ _ x)
 
       none_cleared : ((k : Service) (g : Given) → FailsAt c e k g → ⊥) → (m : Message) → Answering c l e kind Side.Called m → ⊥
@@ -228,9 +224,9 @@ module _ (c : Call) (l : List ℕ) (e : Event) (kind : Kind) (next : Phase) (f :
       clears_one : (k : Service) (g : Given) → FailsAt c e k g → (m : Message) → Answering c l e kind Side.Calling m → rejections ≡ m
       clears_one k g x m (on y s t v h) = absurd (y k g x)
       clears_one k g x m (clears y s t v) =
-          λ j. telling Kind.Disconnect (Cause.Value 69) (turned_one c e Service.One one s j) (turned_one c e Service.Two two t j) (turned_one c e Service.Three three v j) false
+          λ j. telling Kind.Disconnect (Some 69) (turned_one c e Service.One one s j) (turned_one c e Service.Two two t j) (turned_one c e Service.Three three v j) false
 
-      called_one : (m : Message) → Answering c l e kind Side.Called m → curt Kind.Disconnect (Cause.Value 31) ≡ m
+      called_one : (m : Message) → Answering c l e kind Side.Called m → curt Kind.Disconnect (Some 31) ≡ m
       called_one m (clears_too x) = refl
 
       pub answering_told : {seen : Seen} (x : Bool) → Outcome c e x → Sight l (limit_for c e) seen → Denies (not x && in_force_of (settled_of c.standings.one f.one)) (NotCarried c e) → (side : Side) → IsWhatIsSent (Answering c l e kind side) (sent_to (answering_of c kind next f seen x) side)
@@ -241,24 +237,24 @@ module _ (c : Call) (l : List ℕ) (e : Event) (kind : Kind) (next : Phase) (f :
       answering_told false (sound n) v d Side.Called = told_none refl (none_cleared n)
       answering_told true (fails k g x) v d Side.Calling =
           told_by rejections refl (clears x (turned_is c e Service.One one) (turned_is c e Service.Two two) (turned_is c e Service.Three three)) (clears_one k g x)
-      answering_told true (fails k g x) v d Side.Called = told_by (curt Kind.Disconnect (Cause.Value 31)) refl (clears_too x) called_one
+      answering_told true (fails k g x) v d Side.Called = told_by (curt Kind.Disconnect (Some 31)) refl (clears_too x) called_one
 
 -- what is said of an answering message is said of its event
-wrapped : {P Q : Message → Type 0} {s : Sent} → ((m : Message) → P m → Q m) → ((m : Message) → Q m → P m) → IsWhatIsSent P s → IsWhatIsSent Q s
+wrapped : {P Q : Message → Type 0} {s : Option Message} → ((m : Message) → P m → Q m) → ((m : Message) → Q m → P m) → IsWhatIsSent P s → IsWhatIsSent Q s
 wrapped f g t m = ((λ h. f m ((t m).0 h)), (λ q. (t m).1 (g m q)))
 
-abbrev pub carrying : Standing → Fates → Bool
+abbrev pub carrying : Standing → ByService Fate → Bool
 carrying s f = not (failed_of f) && in_force_of (settled_of s f.one)
 
-pub alerting_denies : (c : Call) (a : Answers) → Denies (carrying c.standings.one (alerting_fates_of c.standings a)) (NotCarried c (Event.Alerting a))
+pub alerting_denies : (c : Call) (a : ByService Given) → Denies (carrying c.standings.one (alerting_fates_of c.standings a)) (NotCarried c (Event.Alerting a))
 unfolding carries_of
 alerting_denies c a = alerting_carries c a
 
-pub connect_denies : (c : Call) (a : Answers) → Denies (carrying c.standings.one (connect_fates_of (not (requested_of c.phase)) c.standings a)) (NotCarried c (Event.Connect a))
+pub connect_denies : (c : Call) (a : ByService Given) → Denies (carrying c.standings.one (connect_fates_of (not (requested_of c.phase)) c.standings a)) (NotCarried c (Event.Connect a))
 unfolding carries_of
 connect_denies c a = connect_carries c a
 
-module _ (c : Call) (a : Answers) (l : List ℕ) where
+module _ (c : Call) (a : ByService Given) (l : List ℕ) where
   rang : (side : Side) (m : Message) → Sends c l (Event.Alerting a) side m → Answering c l (Event.Alerting a) Kind.Alerting side m
   rang side m (alerting x) = x
 
@@ -358,7 +354,7 @@ module _ (c : Call) (l : List ℕ) (side : Side) where
   says what = Event.Facility side what
 
   abbrev about_three : Said → Message
-  about_three s = telling Kind.Facility Cause.Absent Said.Nothing Said.Nothing s false
+  about_three s = telling Kind.Facility None Said.Nothing Said.Nothing s false
 
   only_refused : (what : What) (m : Message) → Sends c l (says what) side m → about_three Said.ByNetwork ≡ m
   only_refused what m (facility e x w) = absurd (not_other side e)
@@ -466,12 +462,12 @@ module _ (c : Call) where
       let own : Decides c.asking.calling ((Service.Three ≡ Service.Three) × (c.asking.calling ≡ true)) = record { so = λ h. (refl, h); back = λ x. x.1 } in
       either _ _ (awaits c.standings.three) own
 
-  abbrev said_for : Facilities → Service → Said
+  abbrev said_for : ByService Said → Service → Said
   said_for f Service.One = f.one
   said_for f Service.Two = f.two
   said_for f Service.Three = f.three
 
-  pub word_is : (side : Side) (a : Answers) (k : Service) → LastWord c side k (answer_for a k) (said_for (closing_facilities_of c.standings c.asking.calling (heard_answers_of side a)) k)
+  pub word_is : (side : Side) (a : ByService Given) (k : Service) → LastWord c side k (answer_for a k) (said_for (closing_facilities_of c.standings c.asking.calling (heard_answers_of side a)) k)
   unfolding closing_facilities_of silent_answers
   word_is Side.Calling a Service.One = no_word Service.One a.one
   word_is Side.Calling a Service.Two = no_word Service.Two a.two
@@ -484,19 +480,19 @@ module _ (c : Call) where
   word_one Side.Calling k g x y = sym (no_other_word k g x) ∙ no_other_word k g y
   word_one Side.Called k g x y = one_word k g x y
 
-module _ (c : Call) (l : List ℕ) (side : Side) (cause : ℕ) (a : Answers) where
+module _ (c : Call) (l : List ℕ) (side : Side) (cause : ℕ) (a : ByService Given) where
   abbrev clearing : Event
   clearing = Event.Disconnect side cause a
 
-  abbrev said_last : Facilities
+  abbrev said_last : ByService Said
   said_last = closing_facilities_of c.standings c.asking.calling (heard_answers_of side a)
 
   abbrev last : Bool → Message
-  last b = telling Kind.Disconnect (Cause.Value cause) said_last.one said_last.two said_last.three b
+  last b = telling Kind.Disconnect (Some cause) said_last.one said_last.two said_last.three b
 
   disconnect_one : (b : Bool) → Flags b (Rides c clearing l) → (m : Message) → Sends c l clearing (other side) m → last b ≡ m
   disconnect_one b f m (disconnect e x y z g) =
-      λ j. telling Kind.Disconnect (Cause.Value cause) (word_one c side Service.One a.one (word_is c side a Service.One) x j) (word_one c side Service.Two a.two (word_is c side a Service.Two) y j) (word_one c side Service.Three a.three (word_is c side a Service.Three) z j) (one_flag f g j)
+      λ j. telling Kind.Disconnect (Some cause) (word_one c side Service.One a.one (word_is c side a Service.One) x j) (word_one c side Service.Two a.two (word_is c side a Service.Two) y j) (word_one c side Service.Three a.three (word_is c side a Service.Three) z j) (one_flag f g j)
 
   not_back : (m : Message) → Sends c l clearing side m → ⊥
   not_back m (disconnect e x y z g) = not_other side e
@@ -510,7 +506,7 @@ module _ (c : Call) (l : List ℕ) (side : Side) (cause : ℕ) (a : Answers) whe
       (told_by (last _) refl (disconnect refl (word_is c side a Service.One) (word_is c side a Service.Two) (word_is c side a Service.Three) b) (disconnect_one _ b)) to
 
 module _ (c : Call) (l : List ℕ) (side : Side) where
-  release_one : (m : Message) → Sends c l (Event.ReleaseComplete side) (other side) m → curt Kind.ReleaseComplete Cause.Absent ≡ m
+  release_one : (m : Message) → Sends c l (Event.ReleaseComplete side) (other side) m → curt Kind.ReleaseComplete None ≡ m
   release_one m (release e) = refl
 
   not_released : (m : Message) → Sends c l (Event.ReleaseComplete side) side m → ⊥
@@ -520,7 +516,7 @@ module _ (c : Call) (l : List ℕ) (side : Side) where
   unfolding ends_of bare_of saying_of silence
   release_told to =
       reply_told (Sends c l (Event.ReleaseComplete side)) side _ _ _ _ _ _ (told_none refl not_released)
-      (told_by (curt Kind.ReleaseComplete Cause.Absent) refl (release refl) release_one) to
+      (told_by (curt Kind.ReleaseComplete None) refl (release refl) release_one) to
 
 -- ---- a tick
 

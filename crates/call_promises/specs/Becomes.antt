@@ -1,17 +1,16 @@
 -- What becomes of the record, exactly: every field of the next record after a single event, from any record. A
 -- constructor for each sentence of the paper. Nothing here names a function by which the step makes a record.
+use Rattle.services.specs.declared.ByService.{ByService}
+use Rattle.sent.specs.declared.side.BySide.{BySide}
 use Rattle.std.specs.Prelude.{ℕ, ◌+◌, ◌-◌, ◌<◌, ◌≤◌, List, [], ◌∷◌, ◌⊎◌, Bool, true, false, ◌≡◌}
 use Rattle.rights.specs.declared.Rights.{Rights}
 use Rattle.rights.specs.declared.Service.{Service}
-use Rattle.services.specs.declared.Answers.{Answers}
 use Rattle.services.specs.declared.Given.{Given}
 use Rattle.services.specs.declared.Request.{Request}
-use Rattle.services.specs.declared.Requests.{Requests}
 use Rattle.services.specs.declared.Said.{Said}
 use Rattle.services.specs.declared.Standing.{Standing}
 use Rattle.facility_rules.specs.declared.What.{What}
 use Rattle.flow_meter.specs.declared.Meter.{Meter}
-use Rattle.flow_meter.specs.declared.call_meters.Meters.{Meters}
 use Rattle.phases.specs.declared.Phase.{Phase}
 use Rattle.sent.specs.declared.side.Side.{Side}
 use Rattle.call.specs.declared.Call.{Call}
@@ -44,7 +43,7 @@ asking_from c Side.Called b =
 abbrev pub topped : Meter → ℕ → Meter
 topped m n = record { credit = n; mark = m.mark; count = m.count }
 
-abbrev pub topped_both : Call → Meters
+abbrev pub topped_both : Call → BySide Meter
 topped_both c =
     record { calling = topped c.meters.calling c.rights.burst; called = topped c.meters.called c.rights.burst }
 
@@ -58,7 +57,7 @@ pub data Stands (r : Rights) (k : Service) (q : Request) (Implicit : Type 0) : S
   lacking : Explicit q ⊎ Implicit → (Has r k → ⊥) → Stands r k q Implicit Standing.Closed
 
 -- "If a required service is not in the rights: .. Ended. Otherwise .. Requested"
-pub data Opens (r : Rights) (q : Requests) : Phase → Type 0 where
+pub data Opens (r : Rights) (q : ByService Request) : Phase → Type 0 where
   ended : LacksRequired r q → Opens r q Phase.Ended
   requested : (LacksRequired r q → ⊥) → Opens r q Phase.Requested
 
@@ -80,13 +79,13 @@ new_record n r p one two three =
 
 -- ALERTING and CONNECT. "Required and not accepted: .. Clearing." Otherwise the next phase, each service as it settles,
 -- and credit where service 3 is accepted.
-pub data Earns (c : Call) (e : Event) : Meters → Type 0 where
+pub data Earns (c : Call) (e : Event) : BySide Meter → Type 0 where
   earns : Counts c e Service.Three Given.Accepted → Earns c e (topped_both c)
   earns_not : (Counts c e Service.Three Given.Accepted → ⊥) → Earns c e c.meters
 
 pub data Answered (c : Call) (e : Event) (next : Phase) : Call → Type 0 where
   on :
-      {s t u : Standing} {one two three : Said} {m : Meters} → ((k : Service) (g : Given) → FailsAt c e k g → ⊥) →
+      {s t u : Standing} {one two three : Said} {m : BySide Meter} → ((k : Service) (g : Given) → FailsAt c e k g → ⊥) →
       Settles c e Service.One s one → Settles c e Service.Two t two → Settles c e Service.Three u three → Earns c e m →
       Answered c e next (altered c next (record { one = s; two = t; three = u }) c.asking m)
   -- an acceptance beside the failure leaves no trace: docs/DECISIONS.md, One call 16
@@ -105,11 +104,11 @@ pub data TickAdds (r : Rights) (n : ℕ) : ℕ → Type 0 where
 -- What the record is after an event that is acted on.
 pub data Becomes (c : Call) (l : List ℕ) : Event → Call → Type 0 where
   setup :
-      {n : ℕ} {r : Rights} {q : Requests} {p : Phase} {one two three : Standing} → Opens r q p →
+      {n : ℕ} {r : Rights} {q : ByService Request} {p : Phase} {one two three : Standing} → Opens r q p →
       Stands r Service.One q.one (Implied r q l) one → Stands r Service.Two q.two ⊥ two → Stands r Service.Three q.three ⊥ three →
       Becomes c l (Event.Setup n r q) (new_record n r p one two three)
-  alerting : {a : Answers} {d : Call} → Answered c (Event.Alerting a) Phase.Alerting d → Becomes c l (Event.Alerting a) d
-  connect : {a : Answers} {d : Call} → Answered c (Event.Connect a) Phase.Active d → Becomes c l (Event.Connect a) d
+  alerting : {a : ByService Given} {d : Call} → Answered c (Event.Alerting a) Phase.Alerting d → Becomes c l (Event.Alerting a) d
+  connect : {a : ByService Given} {d : Call} → Answered c (Event.Connect a) Phase.Active d → Becomes c l (Event.Connect a) d
   -- "service 2, two messages each way"
   counts :
       {side : Side} {more : Bool} → CountPays c l side →
@@ -142,7 +141,7 @@ pub data Becomes (c : Call) (l : List ℕ) : Event → Call → Type 0 where
   refuses : {side : Side} {what : What} → (Agreed c (Event.Facility side what) → ⊥) → Becomes c l (Event.Facility side what) c
   -- "Passed on ..; Clearing."
   disconnect :
-      {side : Side} {cause : ℕ} {a : Answers} {one : Standing} → Last c side a.one one →
+      {side : Side} {cause : ℕ} {a : ByService Given} {one : Standing} → Last c side a.one one →
       Becomes c l (Event.Disconnect side cause a)
       (altered c Phase.Clearing (record { one = one; two = c.standings.two; three = c.standings.three }) c.asking c.meters)
   -- "Passed on bare; Ended."

@@ -1,16 +1,15 @@
 -- CREDIT. No credit is invented or lost: each credit and each service 2 count is a function of the events alone, with
 -- their elements: the account, which says by itself which events count and what each does. No call record, no answer
 -- and no message stands in it.
+use Rattle.services.specs.declared.ByService.{ByService}
+use Rattle.sent.specs.declared.side.BySide.{BySide}
 use Rattle.std.specs.Prelude.{ℕ, ◌+◌, ◌-◌, List, [], ◌∷◌, Bool, true, false, cond, ◌&&◌, ◌||◌, not, ◌⊎◌, ◌≡◌, length, ltb, leb}
 use Rattle.rights.specs.declared.Rights.{Rights}
 use Rattle.rights.specs.declared.Service.{Service}
-use Rattle.services.specs.declared.Answers.{Answers}
 use Rattle.services.specs.declared.Given.{Given}
 use Rattle.services.specs.declared.Request.{Request}
-use Rattle.services.specs.declared.Requests.{Requests}
 use Rattle.user_element.specs.Element.{well_formed_of}
 use Rattle.rights.specs.Rights.{has_of, rights_fit_of, reference_fits_of}
-use Rattle.facility_rules.specs.declared.Asking.{Asking}
 use Rattle.facility_rules.specs.declared.What.{What}
 use Rattle.phases.specs.declared.Phase.{Phase}
 use Rattle.sent.specs.declared.side.Side.{Side}
@@ -23,7 +22,7 @@ use Rattle.call_promises.specs.Numbers.{meter_from, other, Core}
 use Rattle.call_promises.specs.Sound.{Offered, run_of}
 
 -- no request is open
-abbrev pub none_asks : Asking
+abbrev pub none_asks : BySide Bool
 none_asks = record { calling = false; called = false }
 
 -- what one direction has
@@ -35,11 +34,11 @@ pub record Purse : Type 0 where
 -- FACILITY request is open
 pub record Account : Type 0 where
   pub rights : Rights
-  pub asked : Requests
+  pub asked : ByService Request
   pub phase : Phase
   pub two : Bool
   pub three : Bool
-  pub asks : Asking
+  pub asks : BySide Bool
   pub calling : Purse
   pub called : Purse
 
@@ -52,7 +51,7 @@ abbrev pub moves : Account → Phase → Bool → Bool → Account
 moves a phase two three =
     record { rights = a.rights; asked = a.asked; phase = phase; two = two; three = three; asks = a.asks; calling = a.calling; called = a.called }
 
-abbrev pub opens : Account → Asking → Account
+abbrev pub opens : Account → BySide Bool → Account
 opens a asks =
     record { rights = a.rights; asked = a.asked; phase = a.phase; two = a.two; three = a.three; asks = asks; calling = a.calling; called = a.called }
 
@@ -78,10 +77,10 @@ accepts Given.Rejected = false
 
 -- SETUP. "If a required service is not in the rights: .. Ended. Otherwise SETUP goes on with the remaining requests ..
 -- Requested." An implicit request for service 1 is preferred and due no answer: it counts as none here.
-abbrev pub lacks : Rights → Requests → Bool
+abbrev pub lacks : Rights → ByService Request → Bool
 lacks r q = (fails q.one (has_of r Service.One) || fails q.two (has_of r Service.Two)) || fails q.three (has_of r Service.Three)
 
-abbrev pub remaining : Rights → Requests → Requests
+abbrev pub remaining : Rights → ByService Request → ByService Request
 remaining r q =
     record {
       one = cond (has_of r Service.One) q.one Request.Unasked;
@@ -92,7 +91,7 @@ remaining r q =
 abbrev pub empty : Purse
 empty = record { credit = 0; count = 0 }
 
-abbrev pub begins : Rights → Requests → Phase → Account
+abbrev pub begins : Rights → ByService Request → Phase → Account
 begins r q phase =
     record { rights = r; asked = q; phase = phase; two = false; three = false; asks = none_asks; calling = empty; called = empty }
 
@@ -107,13 +106,13 @@ abbrev pub clears : Account → Account
 clears a = moves a Phase.Clearing a.two a.three
 
 -- ALERTING. "Answers to 1 and 2 are due."
-abbrev pub alerts : Account → Answers → Account
+abbrev pub alerts : Account → ByService Given → Account
 alerts a g =
     cond (fails a.asked.one (accepts g.one) || fails a.asked.two (accepts g.two)) (clears a)
     (moves a Phase.Alerting (comes a.asked.two (accepts g.two)) a.three)
 
 -- CONNECT. "The answer to 3 is due, and to 1 if no ALERTING came; service 2 without ALERTING counts as unanswered."
-abbrev pub connects : Account → Answers → Account
+abbrev pub connects : Account → ByService Given → Account
 connects a g =
     cond
     ((requested_of a.phase && (fails a.asked.one (accepts g.one) || fails a.asked.two false))
@@ -151,11 +150,11 @@ abbrev pub may : Rights → Side → Bool
 may r Side.Calling = has_of r Service.Three
 may r Side.Called = has_of r Service.Three && r.leave
 
-abbrev pub asks_at : Asking → Side → Bool
+abbrev pub asks_at : BySide Bool → Side → Bool
 asks_at a Side.Calling = a.calling
 asks_at a Side.Called = a.called
 
-abbrev pub ask_at : Asking → Side → Bool → Asking
+abbrev pub ask_at : BySide Bool → Side → Bool → BySide Bool
 ask_at a Side.Calling b = record { calling = b; called = a.called }
 ask_at a Side.Called b = record { calling = a.calling; called = b }
 

@@ -1,15 +1,15 @@
 -- What users are handed: "user information goes out unaltered and only under a service in force in that phase or, in
 -- SETUP, still asked for".
+use Rattle.std.specs.Prelude.{Option, Some, None}
+use Rattle.services.specs.declared.ByService.{ByService}
+use Rattle.services.specs.declared.Given.{Given}
 use Rattle.std.specs.Prelude.{ℕ, ◌<◌, ◌≤◌, List, [], ◌⊎◌, Bool, false, cond, ◌≡◌, length}
 use Rattle.rights.specs.declared.Rights.{Rights}
 use Rattle.rights.specs.declared.Service.{Service}
-use Rattle.services.specs.declared.Answers.{Answers}
 use Rattle.services.specs.declared.Request.{Request}
-use Rattle.services.specs.declared.Requests.{Requests}
 use Rattle.user_element.specs.Element.{note_number_of}
 use Rattle.message_types.specs.declared.Kind.{Kind}
 use Rattle.sent.specs.declared.Message.{Message}
-use Rattle.sent.specs.declared.Sent.{Sent}
 use Rattle.phases.specs.declared.Phase.{Phase}
 use Rattle.sent.specs.declared.side.Side.{Side}
 use Rattle.answer.specs.Answer.{number_of}
@@ -21,9 +21,9 @@ use Rattle.call_promises.specs.Notes.{Bare, limit_for}
 use Rattle.call_promises.specs.Refusals.{sent_to}
 
 -- the octets that a message hands over: the event's element if the message says that it goes out, and none otherwise
-abbrev pub handed_in : Sent → List ℕ → List ℕ
-handed_in Sent.Absent l = []
-handed_in (Sent.Present m) l = cond m.element l []
+abbrev pub handed_in : Option Message → List ℕ → List ℕ
+handed_in None l = []
+handed_in (Some m) l = cond m.element l []
 
 -- the octets that a user is handed at an event
 abbrev pub handed_to : Core → Call → Event → List ℕ → Side → List ℕ
@@ -32,18 +32,18 @@ handed_to f c e l side = handed_in (sent_to (f c e l) side) l
 -- An event's element goes out to one user only and in the event's own message. More data belongs to USER INFORMATION
 -- only.
 pub data Goes : Event → Side → Kind → Bool → Type 0 where
-  setup : {reference : ℕ} {rights : Rights} {requests : Requests} → Goes (Event.Setup reference rights requests) Side.Called Kind.Setup false
-  alerting : {answers : Answers} → Goes (Event.Alerting answers) Side.Calling Kind.Alerting false
-  connect : {answers : Answers} → Goes (Event.Connect answers) Side.Calling Kind.Connect false
+  setup : {reference : ℕ} {rights : Rights} {requests : ByService Request} → Goes (Event.Setup reference rights requests) Side.Called Kind.Setup false
+  alerting : {answers : ByService Given} → Goes (Event.Alerting answers) Side.Calling Kind.Alerting false
+  connect : {answers : ByService Given} → Goes (Event.Connect answers) Side.Calling Kind.Connect false
   information : {from : Side} {more : Bool} → Goes (Event.Information from more) (other from) Kind.UserInformation more
-  disconnect : {from : Side} {cause : ℕ} {answers : Answers} → Goes (Event.Disconnect from cause answers) (other from) Kind.Disconnect false
+  disconnect : {from : Side} {cause : ℕ} {answers : ByService Given} → Goes (Event.Disconnect from cause answers) (other from) Kind.Disconnect false
 
 pub record HandedWhole (f : Core) (c : Call) (e : Event) (l : List ℕ) (side : Side) : Type 0 where
   pub own : handed_to f c e l side ≡ l
   pub formed : WellFormed l
   pub limit : length l ≤ limit_for c e
   pub message : Message
-  pub sent : sent_to (f c e l) side ≡ Sent.Present message
+  pub sent : sent_to (f c e l) side ≡ Some message
   pub goes : Goes e side message.kind message.more
   pub alone : handed_to f c e l (other side) ≡ []
 
@@ -69,23 +69,23 @@ GoesOut f = (c : Call) (e : Event) (l : List ℕ) → Out f c e l
 abbrev pub Explicit : Request → Type 0
 Explicit q = (q ≡ Request.Preferred) ⊎ (q ≡ Request.Required)
 
-pub record Implied (rights : Rights) (q : Requests) (l : List ℕ) : Type 0 where
+pub record Implied (rights : Rights) (q : ByService Request) (l : List ℕ) : Type 0 where
   pub unasked : q.one ≡ Request.Unasked
   pub formed : WellFormed l
   pub limit : length l ≤ rights.limit
 
 -- Under which service the element of each event goes out. c is the record before the event, d the one after it.
 pub data Under (c : Call) (l : List ℕ) (d : Call) : Event → Type 0 where
-  opening : {reference : ℕ} {rights : Rights} {requests : Requests} →
+  opening : {reference : ℕ} {rights : Rights} {requests : ByService Request} →
       d.phase ≡ Phase.Requested → Has rights Service.One → Explicit requests.one ⊎ Implied rights requests l →
       Under c l d (Event.Setup reference rights requests)
-  alerted : {answers : Answers} → d.phase ≡ Phase.Alerting → InForce d.standings.one → Under c l d (Event.Alerting answers)
-  connected : {answers : Answers} → d.phase ≡ Phase.Active → InForce d.standings.one → Under c l d (Event.Connect answers)
+  alerted : {answers : ByService Given} → d.phase ≡ Phase.Alerting → InForce d.standings.one → Under c l d (Event.Alerting answers)
+  connected : {answers : ByService Given} → d.phase ≡ Phase.Active → InForce d.standings.one → Under c l d (Event.Connect answers)
   counted : {side : Side} {more : Bool} →
       ServesTwo c side → (meter_from c side).count < 2 → Under c l d (Event.Information side more)
   credited : {side : Side} {more : Bool} →
       ServesThree c → 0 < (meter_from c side).credit → Under c l d (Event.Information side more)
-  cleared : {side : Side} {cause : ℕ} {answers : Answers} →
+  cleared : {side : Side} {cause : ℕ} {answers : ByService Given} →
       d.phase ≡ Phase.Clearing → InForce d.standings.one → Under c l d (Event.Disconnect side cause answers)
 
 -- UNDER A SERVICE. A user is handed octets only where a service is in force for them in that phase or, in SETUP,

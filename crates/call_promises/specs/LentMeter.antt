@@ -1,16 +1,16 @@
 -- The meter that a host lends and the two that a call record holds come to the same: `spend` and `tick` give a lent
 -- meter what USER INFORMATION and the tick give the meter of a call.
+use Rattle.std.specs.Prelude.{Option, Some}
+use Rattle.sent.specs.declared.Message.{Message}
 use Rattle.std.specs.Prelude.{ℕ, ◌≤◌, List, [], ◌∷◌, Bool, true, false, ◌↔◌, ◌≡◌, length}
 use Rattle.flow_meter.specs.declared.Meter.{Meter}
 use Rattle.flow_meter.specs.declared.lent.Spent.{Spent}
 use Rattle.flow_meter.specs.declared.lent.Ticked.{Ticked}
 use Rattle.flow_meter.specs.Lent.{spends_of, ticks_of, spent_number, ticked_number}
-use Rattle.cause.specs.declared.Cause.{Cause}
 use Rattle.services.specs.declared.Standing.{Standing}
 use Rattle.message_types.specs.declared.Kind.{Kind}
 use Rattle.phases.specs.declared.Phase.{Phase}
 use Rattle.sent.specs.declared.Level.{Level}
-use Rattle.sent.specs.declared.Sent.{Sent}
 use Rattle.sent.specs.declared.side.Side.{Side}
 use Rattle.answer.specs.Answer.{number_of}
 use Rattle.call.specs.declared.Call.{Call}
@@ -45,12 +45,12 @@ LentSpending =
     (step_of c (Event.Information side more) l)
 
 -- "A tick with the mark set clears it and sends ready, with cause 43 too (house)."
-abbrev pub ready : Sent
+abbrev pub ready : Option Message
 ready =
-    Sent.Present
+    Some
     (record {
       kind = Kind.CongestionControl;
-      cause = Cause.Value 43;
+      cause = Some 43;
       level = Level.Ready;
       said = nothing_said;
       more = false;

@@ -1,14 +1,12 @@
 -- The note on an event's user-user element.
+use Rattle.services.specs.declared.ByService.{ByService}
 use Rattle.std.specs.Prelude.{ℕ, ◌<◌, List, ◌⊎◌, ◌≡◌, length}
 use Rattle.logic.specs.First.{Rows, end, row, First, Exactly}
 use Rattle.rights.specs.declared.Rights.{Rights}
 use Rattle.rights.specs.declared.Service.{Service}
-use Rattle.services.specs.declared.Answers.{Answers}
 use Rattle.services.specs.declared.Given.{Given}
 use Rattle.services.specs.declared.Request.{Request}
-use Rattle.services.specs.declared.Requests.{Requests}
 use Rattle.services.specs.declared.Standing.{Standing}
-use Rattle.services.specs.declared.Standings.{Standings}
 use Rattle.user_element.specs.Element.{note_number_of}
 use Rattle.phases.specs.declared.Phase.{Phase}
 use Rattle.sent.specs.declared.side.Side.{Side}
@@ -50,7 +48,7 @@ limit_for c Event.CongestionControl = c.rights.limit
 abbrev pub Lacking : Rights → Service → Request → Type 0
 Lacking r k q = (q ≡ Request.Required) × (Has r k → ⊥)
 
-abbrev pub LacksRequired : Rights → Requests → Type 0
+abbrev pub LacksRequired : Rights → ByService Request → Type 0
 LacksRequired r q = Lacking r Service.One q.one ⊎ (Lacking r Service.Two q.two ⊎ Lacking r Service.Three q.three)
 
 -- a request is open until it is answered
@@ -67,10 +65,10 @@ Comes due s g = InForce s ⊎ (due × Open s × (g ≡ Given.Accepted))
 
 -- ALERTING: "Answers to 1 and 2 are due." CONNECT: "The answer to 3 is due, and to 1 if no ALERTING came; service 2
 -- without ALERTING counts as unanswered." ALERTING came exactly if the phase is no longer Requested.
-abbrev pub AlertingFails : Standings → Answers → Type 0
+abbrev pub AlertingFails : ByService Standing → ByService Given → Type 0
 AlertingFails s a = Fails s.one a.one ⊎ Fails s.two a.two
 
-abbrev pub ConnectFails : Phase → Standings → Answers → Type 0
+abbrev pub ConnectFails : Phase → ByService Standing → ByService Given → Type 0
 ConnectFails p s a =
     ((p ≡ Phase.Requested) × (Fails s.one a.one ⊎ (s.two ≡ Standing.Required)))
     ⊎ Fails s.three a.three

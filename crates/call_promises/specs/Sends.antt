@@ -1,22 +1,20 @@
 -- What each user is sent, exactly: whether a message, and then its kind, its cause, what it says of each service, its
 -- level, More data, and whether the event's element goes in it. A constructor for each sentence of the paper; what no
 -- sentence sends is not sent. Nothing here names a function by which the step makes a message.
+use Rattle.std.specs.Prelude.{Option, Some, None}
+use Rattle.services.specs.declared.ByService.{ByService}
 use Rattle.std.specs.Prelude.{ℕ, ◌<◌, ◌≤◌, List, ◌⊎◌, Bool, true, false, ◌≡◌, length}
 use Rattle.rights.specs.declared.Rights.{Rights}
 use Rattle.rights.specs.declared.Service.{Service}
-use Rattle.services.specs.declared.Answers.{Answers}
 use Rattle.services.specs.declared.Given.{Given}
 use Rattle.services.specs.declared.Request.{Request}
-use Rattle.services.specs.declared.Requests.{Requests}
 use Rattle.services.specs.declared.Said.{Said}
 use Rattle.services.specs.declared.Standing.{Standing}
 use Rattle.facility_rules.specs.declared.What.{What}
-use Rattle.cause.specs.declared.Cause.{Cause}
 use Rattle.message_types.specs.declared.Kind.{Kind}
 use Rattle.phases.specs.declared.Phase.{Phase}
 use Rattle.sent.specs.declared.Level.{Level}
 use Rattle.sent.specs.declared.Message.{Message}
-use Rattle.sent.specs.declared.Sent.{Sent}
 use Rattle.sent.specs.declared.side.Side.{Side}
 use Rattle.call.specs.declared.Call.{Call}
 use Rattle.event.specs.declared.Event.{Event}
@@ -45,7 +43,7 @@ pub record Rides (c : Call) (e : Event) (l : List ℕ) : Type 0 where
   pub carried : NotCarried c e → ⊥
 
 -- a message that says this of services 1, 2 and 3; one that says nothing; and CONGESTION CONTROL, "with cause 43"
-abbrev pub telling : Kind → Cause → Said → Said → Said → Bool → Message
+abbrev pub telling : Kind → Option ℕ → Said → Said → Said → Bool → Message
 telling kind cause one two three element =
     record {
       kind = kind;
@@ -56,14 +54,14 @@ telling kind cause one two three element =
       element = element;
     }
 
-abbrev pub curt : Kind → Cause → Message
+abbrev pub curt : Kind → Option ℕ → Message
 curt kind cause = telling kind cause Said.Nothing Said.Nothing Said.Nothing false
 
 abbrev pub congested : Level → Message
 congested level =
     record {
       kind = Kind.CongestionControl;
-      cause = Cause.Value 43;
+      cause = Some 43;
       level = level;
       said = record { one = Said.Nothing; two = Said.Nothing; three = Said.Nothing };
       more = false;
@@ -74,7 +72,7 @@ abbrev pub informing : Bool → Message
 informing more =
     record {
       kind = Kind.UserInformation;
-      cause = Cause.Absent;
+      cause = None;
       level = Level.Absent;
       said = record { one = Said.Nothing; two = Said.Nothing; three = Said.Nothing };
       more = more;
@@ -95,10 +93,10 @@ pub data Remaining (r : Rights) (k : Service) (q : Request) : Said → Type 0 wh
 -- "ALERTING. Answers to 1 and 2 are due. CONNECT. The answer to 3 is due, and to 1 if no ALERTING came; service 2
 -- without ALERTING counts as unanswered." ALERTING came exactly if the phase is no longer Requested.
 pub data Due (p : Phase) : Event → Service → Given → Type 0 where
-  ringing : {a : Answers} {k : Service} {g : Given} → (k ≡ Service.Three → ⊥) → answer_for a k ≡ g → Due p (Event.Alerting a) k g
-  third : {a : Answers} {g : Given} → a.three ≡ g → Due p (Event.Connect a) Service.Three g
-  first : {a : Answers} {g : Given} → p ≡ Phase.Requested → a.one ≡ g → Due p (Event.Connect a) Service.One g
-  second : {a : Answers} {g : Given} → p ≡ Phase.Requested → Given.Silent ≡ g → Due p (Event.Connect a) Service.Two g
+  ringing : {a : ByService Given} {k : Service} {g : Given} → (k ≡ Service.Three → ⊥) → answer_for a k ≡ g → Due p (Event.Alerting a) k g
+  third : {a : ByService Given} {g : Given} → a.three ≡ g → Due p (Event.Connect a) Service.Three g
+  first : {a : ByService Given} {g : Given} → p ≡ Phase.Requested → a.one ≡ g → Due p (Event.Connect a) Service.One g
+  second : {a : ByService Given} {g : Given} → p ≡ Phase.Requested → Given.Silent ≡ g → Due p (Event.Connect a) Service.Two g
 
 -- "Answers not due or not asked are ignored": an answer that counts
 pub record Counts (c : Call) (e : Event) (k : Service) (g : Given) : Type 0 where
@@ -132,11 +130,11 @@ pub data Answering (c : Call) (l : List ℕ) (e : Event) (kind : Kind) : Side �
   on :
       {s t u : Standing} {one two three : Said} {b : Bool} → ((k : Service) (g : Given) → FailsAt c e k g → ⊥) →
       Settles c e Service.One s one → Settles c e Service.Two t two → Settles c e Service.Three u three → Flags b (Rides c e l) →
-      Answering c l e kind Side.Calling (telling kind Cause.Absent one two three b)
+      Answering c l e kind Side.Calling (telling kind None one two three b)
   clears :
       {k : Service} {g : Given} {one two three : Said} → FailsAt c e k g → TurnedDown c e Service.One one → TurnedDown c e Service.Two two → TurnedDown c e Service.Three three →
-      Answering c l e kind Side.Calling (telling Kind.Disconnect (Cause.Value 69) one two three false)
-  clears_too : {k : Service} {g : Given} → FailsAt c e k g → Answering c l e kind Side.Called (curt Kind.Disconnect (Cause.Value 31))
+      Answering c l e kind Side.Calling (telling Kind.Disconnect (Some 69) one two three false)
+  clears_too : {k : Service} {g : Given} → FailsAt c e k g → Answering c l e kind Side.Called (curt Kind.Disconnect (Some 31))
 
 -- USER INFORMATION whose element is neither absent, malformed nor over the limit (17)
 pub record Intact (c : Call) (l : List ℕ) : Type 0 where
@@ -200,24 +198,24 @@ pub data LastWord (c : Call) (side : Side) (k : Service) (g : Given) : Said → 
 pub data Sends (c : Call) (l : List ℕ) : Event → Side → Message → Type 0 where
   -- "If a required service is not in the rights: RELEASE COMPLETE to the caller, cause 50"
   released :
-      {n : ℕ} {r : Rights} {q : Requests} {one two three : Said} → LacksRequired r q →
+      {n : ℕ} {r : Rights} {q : ByService Request} {one two three : Said} → LacksRequired r q →
       Denied r Service.One q.one one → Denied r Service.Two q.two two → Denied r Service.Three q.three three →
-      Sends c l (Event.Setup n r q) Side.Calling (telling Kind.ReleaseComplete (Cause.Value 50) one two three false)
+      Sends c l (Event.Setup n r q) Side.Calling (telling Kind.ReleaseComplete (Some 50) one two three false)
   -- "Otherwise .. CALL PROCEEDING to the caller"
   proceeding :
-      {n : ℕ} {r : Rights} {q : Requests} {one two three : Said} → (LacksRequired r q → ⊥) →
+      {n : ℕ} {r : Rights} {q : ByService Request} {one two three : Said} → (LacksRequired r q → ⊥) →
       Denied r Service.One q.one one → Denied r Service.Two q.two two → Denied r Service.Three q.three three →
-      Sends c l (Event.Setup n r q) Side.Calling (telling Kind.CallProceeding Cause.Absent one two three false)
+      Sends c l (Event.Setup n r q) Side.Calling (telling Kind.CallProceeding None one two three false)
   -- "Otherwise SETUP goes on with the remaining requests and the element"
   setup :
-      {n : ℕ} {r : Rights} {q : Requests} {one two three : Said} {b : Bool} → (LacksRequired r q → ⊥) →
+      {n : ℕ} {r : Rights} {q : ByService Request} {one two three : Said} {b : Bool} → (LacksRequired r q → ⊥) →
       Remaining r Service.One q.one one → Remaining r Service.Two q.two two → Remaining r Service.Three q.three three →
       Flags b (Rides c (Event.Setup n r q) l) →
-      Sends c l (Event.Setup n r q) Side.Called (telling Kind.Setup Cause.Absent one two three b)
+      Sends c l (Event.Setup n r q) Side.Called (telling Kind.Setup None one two three b)
   alerting :
-      {a : Answers} {side : Side} {m : Message} → Answering c l (Event.Alerting a) Kind.Alerting side m → Sends c l (Event.Alerting a) side m
+      {a : ByService Given} {side : Side} {m : Message} → Answering c l (Event.Alerting a) Kind.Alerting side m → Sends c l (Event.Alerting a) side m
   connect :
-      {a : Answers} {side : Side} {m : Message} → Answering c l (Event.Connect a) Kind.Connect side m → Sends c l (Event.Connect a) side m
+      {a : ByService Given} {side : Side} {m : Message} → Answering c l (Event.Connect a) Kind.Connect side m → Sends c l (Event.Connect a) side m
   -- a message that is paid for goes on; "More data goes on unchanged"
   passes :
       {side to : Side} {more : Bool} → to ≡ other side → CountPays c l side ⊎ CreditPays c l side →
@@ -229,26 +227,26 @@ pub data Sends (c : Call) (l : List ℕ) : Event → Side → Message → Type 0
   -- "Request, accept or reject for service 3, passed to the other user when taken"
   facility :
       {side to : Side} {what : What} {s : Said} → to ≡ other side → Agreed c (Event.Facility side what) → Worded what s →
-      Sends c l (Event.Facility side what) to (telling Kind.Facility Cause.Absent Said.Nothing Said.Nothing s false)
+      Sends c l (Event.Facility side what) to (telling Kind.Facility None Said.Nothing Said.Nothing s false)
   -- "16 sends the asker FACILITY with rejectedByNetwork"
   refuses :
       {side to : Side} {what : What} → to ≡ side → (AskedRequired (Event.Facility side what) → ⊥) → NotGranted c (Event.Facility side what) →
-      Sends c l (Event.Facility side what) to (telling Kind.Facility Cause.Absent Said.Nothing Said.Nothing Said.ByNetwork false)
+      Sends c l (Event.Facility side what) to (telling Kind.Facility None Said.Nothing Said.Nothing Said.ByNetwork false)
   -- "Passed on with cause and, if service 1 is in force, the element"
   disconnect :
-      {side to : Side} {cause : ℕ} {a : Answers} {one two three : Said} {b : Bool} → to ≡ other side →
+      {side to : Side} {cause : ℕ} {a : ByService Given} {one two three : Said} {b : Bool} → to ≡ other side →
       LastWord c side Service.One a.one one → LastWord c side Service.Two a.two two → LastWord c side Service.Three a.three three →
       Flags b (Rides c (Event.Disconnect side cause a) l) →
-      Sends c l (Event.Disconnect side cause a) to (telling Kind.Disconnect (Cause.Value cause) one two three b)
+      Sends c l (Event.Disconnect side cause a) to (telling Kind.Disconnect (Some cause) one two three b)
   -- "Passed on bare"
-  release : {side to : Side} → to ≡ other side → Sends c l (Event.ReleaseComplete side) to (curt Kind.ReleaseComplete Cause.Absent)
+  release : {side to : Side} → to ≡ other side → Sends c l (Event.ReleaseComplete side) to (curt Kind.ReleaseComplete None)
   -- "A tick with the mark set clears it and sends ready, with cause 43 too"; "without service 3 in Active it does
   -- nothing"
   ready : {side : Side} → ServesThree c → (meter_from c side).mark ≡ true → Sends c l Event.Tick side (congested Level.Ready)
 
 -- P holds of a message exactly if it is what is sent: of none where nothing is
-abbrev pub IsWhatIsSent : (Message → Type 0) → Sent → Type 0
-IsWhatIsSent P s = (m : Message) → (s ≡ Sent.Present m → P m) × (P m → s ≡ Sent.Present m)
+abbrev pub IsWhatIsSent : (Message → Type 0) → Option Message → Type 0
+IsWhatIsSent P s = (m : Message) → (s ≡ Some m → P m) × (P m → s ≡ Some m)
 
 -- SENDS. For every record, event, element and side: what that side is sent, and whether it is sent anything.
 abbrev pub SendsExactly : Core → Type 0

@@ -1,14 +1,12 @@
 -- Services over a run: "only under a service in force", which was granted; "a required service that fails never leaves
 -- the call connected".
+use Rattle.services.specs.declared.ByService.{ByService}
 use Rattle.std.specs.Prelude.{ℕ, List, [], ◌∷◌, ◌++◌, ◌≡◌}
 use Rattle.rights.specs.declared.Rights.{Rights}
 use Rattle.rights.specs.declared.Service.{Service}
-use Rattle.services.specs.declared.Answers.{Answers}
 use Rattle.services.specs.declared.Given.{Given}
 use Rattle.services.specs.declared.Request.{Request}
-use Rattle.services.specs.declared.Requests.{Requests}
 use Rattle.services.specs.declared.Standing.{Standing}
-use Rattle.services.specs.declared.Standings.{Standings}
 use Rattle.facility_rules.specs.declared.What.{What}
 use Rattle.phases.specs.declared.Phase.{Phase}
 use Rattle.sent.specs.declared.side.Side.{Side}
@@ -21,17 +19,17 @@ use Rattle.call_promises.specs.Notes.{LacksRequired, AlertingFails, ConnectFails
 use Rattle.call_promises.specs.Sound.{Offered, run_of}
 use Rattle.call_promises.specs.Handling.{Explicit, Implied}
 
-abbrev pub request_for : Requests → Service → Request
+abbrev pub request_for : ByService Request → Service → Request
 request_for q Service.One = q.one
 request_for q Service.Two = q.two
 request_for q Service.Three = q.three
 
-abbrev pub answer_for : Answers → Service → Given
+abbrev pub answer_for : ByService Given → Service → Given
 answer_for a Service.One = a.one
 answer_for a Service.Two = a.two
 answer_for a Service.Three = a.three
 
-abbrev pub standing_for : Standings → Service → Standing
+abbrev pub standing_for : ByService Standing → Service → Standing
 standing_for s Service.One = s.one
 standing_for s Service.Two = s.two
 standing_for s Service.Three = s.three
@@ -54,7 +52,7 @@ Takes f P before o = Taken f (run_of f fresh_call before) o.event o.element × P
 
 -- SETUP asks for a service as required
 pub data Requires (k : Service) : Event → List ℕ → Type 0 where
-  asked : {reference : ℕ} {rights : Rights} {q : Requests} {l : List ℕ} → request_for q k ≡ Request.Required → Requires k (Event.Setup reference rights q) l
+  asked : {reference : ℕ} {rights : Rights} {q : ByService Request} {l : List ℕ} → request_for q k ≡ Request.Required → Requires k (Event.Setup reference rights q) l
 
 -- REQUIRED. After every run from a fresh record: if the call is Active, every service is in force that its SETUP asked
 -- for as required.
@@ -66,9 +64,9 @@ Required f =
 -- An event at which a required service fails: SETUP that asks for one the rights lack, ALERTING or CONNECT that does
 -- not accept one that is due.
 pub data Failing (c : Call) : Event → Phase → Type 0 where
-  setup : {reference : ℕ} {rights : Rights} {q : Requests} → LacksRequired rights q → Failing c (Event.Setup reference rights q) Phase.Ended
-  alerting : {a : Answers} → AlertingFails c.standings a → Failing c (Event.Alerting a) Phase.Clearing
-  connect : {a : Answers} → ConnectFails c.phase c.standings a → Failing c (Event.Connect a) Phase.Clearing
+  setup : {reference : ℕ} {rights : Rights} {q : ByService Request} → LacksRequired rights q → Failing c (Event.Setup reference rights q) Phase.Ended
+  alerting : {a : ByService Given} → AlertingFails c.standings a → Failing c (Event.Alerting a) Phase.Clearing
+  connect : {a : ByService Given} → ConnectFails c.phase c.standings a → Failing c (Event.Connect a) Phase.Clearing
 
 -- FAILED. Where such an event is taken, the call is Ended or Clearing at once.
 abbrev pub Failed : Core → Type 0
@@ -77,19 +75,19 @@ Failed f =
 
 -- an event asks for a service, and may: SETUP by a request or, for service 1, by its element; FACILITY for service 3
 pub data AsksFor : Service → Event → List ℕ → Type 0 where
-  request : {k : Service} {reference : ℕ} {rights : Rights} {q : Requests} {l : List ℕ} → Has rights k → Explicit (request_for q k) → AsksFor k (Event.Setup reference rights q) l
-  element : {reference : ℕ} {rights : Rights} {q : Requests} {l : List ℕ} → Has rights Service.One → Implied rights q l → AsksFor Service.One (Event.Setup reference rights q) l
+  request : {k : Service} {reference : ℕ} {rights : Rights} {q : ByService Request} {l : List ℕ} → Has rights k → Explicit (request_for q k) → AsksFor k (Event.Setup reference rights q) l
+  element : {reference : ℕ} {rights : Rights} {q : ByService Request} {l : List ℕ} → Has rights Service.One → Implied rights q l → AsksFor Service.One (Event.Setup reference rights q) l
   facility : {side : Side} {l : List ℕ} → AsksFor Service.Three (Event.Facility side What.Preferred) l
 
 -- an event accepts a service, of those that can be due at its kind: "ALERTING .. Answers to 1 and 2 are due. CONNECT ..
 -- The answer to 3 is due, and to 1 if no ALERTING came" (whether one came, `Becomes` looks at); DISCONNECT from the
 -- called side for service 1; FACILITY for service 3; an element in SETUP puts service 1 in force by itself
 pub data Accepts : Service → Event → List ℕ → Type 0 where
-  alerting : {k : Service} {a : Answers} {l : List ℕ} → (k ≡ Service.Three → ⊥) → answer_for a k ≡ Given.Accepted → Accepts k (Event.Alerting a) l
-  connect : {k : Service} {a : Answers} {l : List ℕ} → (k ≡ Service.Two → ⊥) → answer_for a k ≡ Given.Accepted → Accepts k (Event.Connect a) l
-  disconnect : {cause : ℕ} {a : Answers} {l : List ℕ} → a.one ≡ Given.Accepted → Accepts Service.One (Event.Disconnect Side.Called cause a) l
+  alerting : {k : Service} {a : ByService Given} {l : List ℕ} → (k ≡ Service.Three → ⊥) → answer_for a k ≡ Given.Accepted → Accepts k (Event.Alerting a) l
+  connect : {k : Service} {a : ByService Given} {l : List ℕ} → (k ≡ Service.Two → ⊥) → answer_for a k ≡ Given.Accepted → Accepts k (Event.Connect a) l
+  disconnect : {cause : ℕ} {a : ByService Given} {l : List ℕ} → a.one ≡ Given.Accepted → Accepts Service.One (Event.Disconnect Side.Called cause a) l
   facility : {side : Side} {l : List ℕ} → Accepts Service.Three (Event.Facility side What.Accept) l
-  element : {reference : ℕ} {rights : Rights} {q : Requests} {l : List ℕ} → Implied rights q l → Accepts Service.One (Event.Setup reference rights q) l
+  element : {reference : ℕ} {rights : Rights} {q : ByService Request} {l : List ℕ} → Implied rights q l → Accepts Service.One (Event.Setup reference rights q) l
 
 -- the rights have the service; an event of the run accepted it, and by then one had asked for it
 pub record Grant (f : Core) (os : List Offered) (k : Service) : Type 0 where

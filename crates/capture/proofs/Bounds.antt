@@ -1,4 +1,8 @@
 -- What is read of octets is small, and so is its line.
+use Rattle.std.specs.Prelude.{Option, Some, None, Result, Ok, Err}
+use Rattle.message_types.specs.declared.Kind.{Kind}
+use Rattle.message_fields.specs.declared.Fault.{Fault}
+use Rattle.message_fields.specs.declared.Place.{Place}
 use Prim.Native.Nat.{ℕ, ◌+◌, ◌<◌, ◌≤◌}
 use mathlib.Core.List.{List, [], ◌∷◌, ◌++◌}
 use mathlib.Core.Bool.{false}
@@ -7,22 +11,17 @@ use native.Mathlib.Omega.{arith}
 use borrow.Author.Tests.{ltb-true, ltb-false}
 use lib.Dec.{ltb, leb, eqb}
 use lib.ListN.{length, get_or, drop, length-append}
-use Rattle.cause.specs.declared.Cause.{Cause}
 use Rattle.facility.specs.declared.Wish.{Wish}
 use Rattle.facility.specs.declared.Refusal.{Refusal}
 use Rattle.facility.specs.declared.Component.{Component}
-use Rattle.facility.specs.declared.Facility.{Facility}
 use Rattle.cause.specs.Element.{cause_of}
 use Rattle.facility.specs.Facility.{invoke_number}
 use Rattle.facility.specs.Forms.{Slot, service_of, wish_of, refusal_of, invoke_says, error_says, read_as, invoke_form, result_form, error_form, invoke_of, result_of, error_of, or, facility_of, spells}
-use Rattle.message_types.specs.declared.Typed.{Typed}
 use Rattle.message_fields.specs.declared.Width.{Width}
 use Rattle.message_fields.specs.declared.Single.{Single}
 use Rattle.message_fields.specs.declared.Facilities.{Facilities}
 use Rattle.message_fields.specs.declared.Header.{Header}
-use Rattle.message_fields.specs.declared.Place.{Place}
 use Rattle.message_fields.specs.declared.Reading.{Reading}
-use Rattle.message_fields.specs.declared.Read.{Read}
 use Rattle.message_types.specs.Kind.{kind_of}
 use Rattle.elements.specs.Elements.{Element, Split, cut, whole, elements, counted}
 use Rattle.elements.specs.Meaning.{first_cause, and_says, components, first_three, reading_of, taken_from}
@@ -55,11 +54,11 @@ small_cause [] = tt
 small_cause (e ∷ es) = by_cond CauseIn (eqb e.id 0x08) (λ t. body_cause e.body) (λ t. small_cause es)
 
 -- the invoke numbers
-abbrev SaysSmall : Facility → Type 0
-SaysSmall Facility.Absent = Unit {0}
-SaysSmall (Facility.Says c) = invoke_number c ≤ 127
+abbrev SaysSmall : Option Component → Type 0
+SaysSmall None = Unit {0}
+SaysSmall (Some c) = invoke_number c ≤ 127
 
-by_form : (f : List Slot) (b : List ℕ) (says : Facility) → (get_or b 5 0 < 128 → SaysSmall says) → SaysSmall (read_as f b says)
+by_form : (f : List Slot) (b : List ℕ) (says : Option Component) → (get_or b 5 0 < 128 → SaysSmall says) → SaysSmall (read_as f b says)
 unfolding read_as
 by_form f b says h =
     by_cond SaysSmall (spells f b) (λ t. by_cond SaysSmall (ltb (get_or b 5 0) 128) (λ u. h (ltb-true _ _ u)) (λ u. tt)) (λ t. tt)
@@ -77,9 +76,9 @@ rejected id x h =
     by_cond (λ e. SaysSmall (error_says id e)) (eqb x 1) (λ t. omega arith)
     (λ t. by_cond (λ e. SaysSmall (error_says id e)) (eqb x 2) (λ u. omega arith) (λ u. tt))
 
-either : (a b : Facility) → SaysSmall a → SaysSmall b → SaysSmall (or a b)
-either Facility.Absent b p q = q
-either (Facility.Says c) b p q = p
+either : (a b : Option Component) → SaysSmall a → SaysSmall b → SaysSmall (or a b)
+either None b p q = q
+either (Some c) b p q = p
 
 invoke_says_lem : (b : List ℕ) → SaysSmall (invoke_of b)
 unfolding invoke_of
@@ -87,7 +86,7 @@ invoke_says_lem b = by_form invoke_form b (invoke_says (get_or b 5 0) (service_o
 
 result_says : (b : List ℕ) → SaysSmall (result_of b)
 unfolding result_of
-result_says b = by_form result_form b (Facility.Says (Component.Accepted (get_or b 5 0))) (λ h. omega arith)
+result_says b = by_form result_form b (Some (Component.Accepted (get_or b 5 0))) (λ h. omega arith)
 
 error_says_lem : (b : List ℕ) → SaysSmall (error_of b)
 unfolding error_of
@@ -101,9 +100,9 @@ abbrev AllSmall : List Component → Type 0
 AllSmall [] = Unit {0}
 AllSmall (c ∷ cs) = (invoke_number c ≤ 127) × AllSmall cs
 
-one_more : (f : Facility) (cs : List Component) → SaysSmall f → AllSmall cs → AllSmall (and_says f cs)
-one_more Facility.Absent cs p q = q
-one_more (Facility.Says c) cs p q = (p, q)
+one_more : (f : Option Component) (cs : List Component) → SaysSmall f → AllSmall cs → AllSmall (and_says f cs)
+one_more None cs p q = q
+one_more (Some c) cs p q = (p, q)
 
 small_components : (es : List Element) → AllSmall (components es)
 unfolding components
@@ -117,9 +116,9 @@ three (a ∷ b ∷ []) h = (h.0, h.1.0)
 three (a ∷ b ∷ c ∷ cs) h = (h.0, h.1.0, h.1.1.0)
 
 -- a whole message
-abbrev ReadIn : Read → Type 0
-ReadIn (Read.Taken r) = (r.message.header.reference ≤ 32767) × CauseIn r.message.cause × FacilitiesIn r.message.facility
-ReadIn (Read.Refused f) = Unit {0}
+abbrev ReadIn : Result Reading Fault → Type 0
+ReadIn (Ok r) = (r.message.header.reference ≤ 32767) × CauseIn r.message.cause × FacilitiesIn r.message.facility
+ReadIn (Err f) = Unit {0}
 
 taken_in : (h : Header) (s : Split) → h.reference ≤ 32767 → ReadIn (taken_from h s)
 unfolding taken_from reading_of
@@ -130,9 +129,9 @@ reference_in_lem : (w : Width) (a b : ℕ) → a < 256 → b < 256 → reference
 reference_in_lem Width.One a b h k = omega arith
 reference_in_lem Width.Two a b h k = omega arith
 
-typed_in : (w : Width) (m : List ℕ) (t : Typed) → Octets m → ReadIn (typed_of w m t)
-typed_in w m Typed.Unknown h = tt
-typed_in w m (Typed.Known k) h = taken_in _ (elements (width_of w + 3) 0 (drop (width_of w + 3) m)) (reference_in_lem w (get_or m 2 0) (get_or m 3 0) (h 2) (h 3))
+typed_in : (w : Width) (m : List ℕ) (t : Option Kind) → Octets m → ReadIn (typed_of w m t)
+typed_in w m None h = tt
+typed_in w m (Some k) h = taken_in _ (elements (width_of w + 3) 0 (drop (width_of w + 3) m)) (reference_in_lem w (get_or m 2 0) (get_or m 3 0) (h 2) (h 3))
 
 headed_in : (w : Width) (m : List ℕ) → Octets m → ReadIn (headed_of w m)
 unfolding headed_of
@@ -150,10 +149,10 @@ read_in m h =
     (λ t. tt)))
 
 -- one that is longer than 260 octets is not taken
-short_in : (m : List ℕ) (r : Reading) → read_of m ≡ Read.Taken r → length m ≤ 260
+short_in : (m : List ℕ) (r : Reading) → read_of m ≡ Ok r → length m ≤ 260
 unfolding read_of
 short_in m r =
-    by_cond (λ (x : Read). x ≡ Read.Taken r → length m ≤ 260) (ltb 260 (length m))
+    by_cond (λ (x : Result Reading Fault). x ≡ Ok r → length m ≤ 260) (ltb 260 (length m))
     (λ t e. let z : ◌≡◌ {A = ℕ} 0 1 = cc in absurd (omega arith))
     (λ t e. ltb-false 260 (length m) t)
 
@@ -167,9 +166,9 @@ component_short (Component.Accepted id) h = let f = few id (omega arith) in simp
 component_short (Component.Rejected id Refusal.ByUser) h = let f = few id (omega arith) in simp length-append (omega arith)
 component_short (Component.Rejected id Refusal.ByNetwork) h = let f = few id (omega arith) in simp length-append (omega arith)
 
-cause_short : (c : Cause) → CauseIn c → length (cause_column c) ≤ 3
-cause_short Cause.Absent h = omega arith
-cause_short (Cause.Value v) h = few v (omega arith)
+cause_short : (c : Option ℕ) → CauseIn c → length (cause_column c) ≤ 3
+cause_short None h = omega arith
+cause_short (Some v) h = few v (omega arith)
 
 single_short : (s : Single) → length (single_column s) ≤ 2
 single_short Single.Absent = omega arith
@@ -187,17 +186,17 @@ facility_short (Facilities.Three a b c) h =
     let r = component_short c h.2 in
     simp length-append (omega arith)
 
-abbrev PlaceIn : Place → Type 0
-PlaceIn Place.Absent = Unit {0}
-PlaceIn (Place.At p n) = p + n ≤ 260
+abbrev PlaceIn : Option Place → Type 0
+PlaceIn None = Unit {0}
+PlaceIn (Some s) = s.at + s.size ≤ 260
 
-element_short : (p : Place) → PlaceIn p → length (element_column p) ≤ 7
-element_short Place.Absent h = omega arith
-element_short (Place.At p n) h = let f = few p (omega arith) in let g = few n (omega arith) in simp length-append (omega arith)
+element_short : (p : Option Place) → PlaceIn p → length (element_column p) ≤ 7
+element_short None h = omega arith
+element_short (Some s) h = let f = few s.at (omega arith) in let g = few s.size (omega arith) in simp length-append (omega arith)
 
-place_in_lem : (m : List ℕ) (p : Place) → length m ≤ 260 → place_in (read_of m) ≡ p → PlaceIn p
-place_in_lem m Place.Absent h e = tt
-place_in_lem m (Place.At p n) h e = let w = (element m p n e).within in omega arith
+place_in_lem : (m : List ℕ) (p : Option Place) → length m ≤ 260 → place_in (read_of m) ≡ p → PlaceIn p
+place_in_lem m None h e = tt
+place_in_lem m (Some s) h e = let w = (element m s.at s.size e).within in omega arith
 
 head_short : (h : Header) → h.reference ≤ 32767 → length (head_columns h) ≤ 11
 unfolding head_columns
@@ -218,10 +217,10 @@ taken_short r a b c d =
     omega
     (arith, six_long (column (decimal_of 0)) (head_columns r.message.header) (column (cause_column r.message.cause)) (column (single_column r.message.single)) (column (facility_column r.message.facility)) (column (element_column r.user)))
 
-columns_short : (m : List ℕ) (x : Read) → read_of m ≡ x → ReadIn x → length (columns_of x) ≤ 64
+columns_short : (m : List ℕ) (x : Result Reading Fault) → read_of m ≡ x → ReadIn x → length (columns_of x) ≤ 64
 unfolding columns_of
-columns_short m (Read.Taken r) e h = taken_short r h.0 h.1 h.2 (place_in_lem m r.user (short_in m r e) (ap place_in e))
-columns_short m (Read.Refused f) e h = simp refused_text (omega arith)
+columns_short m (Ok r) e h = taken_short r h.0 h.1 h.2 (place_in_lem m r.user (short_in m r e) (ap place_in e))
+columns_short m (Err f) e h = simp refused_text (omega arith)
 
 pub bounded : Bounded
 unfolding line_of line_with

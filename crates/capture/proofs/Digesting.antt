@@ -1,4 +1,5 @@
 -- A piece that is being worked off: what is left of it makes up what the whole of it makes.
+use Rattle.std.specs.Prelude.{Ok, Err}
 use Prim.Native.Nat.{ℕ, ◌+◌, ◌-◌, ◌*◌, ◌<◌, ◌≤◌}
 use mathlib.Core.List.{List, [], ◌∷◌, ◌++◌}
 use mathlib.Core.Bool.{true}
@@ -8,7 +9,6 @@ use borrow.Author.Tests.{le-leb, lt-leb}
 use lib.ListN.{length, get_or, take, drop, length-append, length-drop}
 use lib.Seq.{length-take-le, drop-drop, get_or-drop}
 use Rattle.memory.specs.declared.Bar.{Bar}
-use Rattle.memory.specs.declared.Wrote.{Wrote}
 use Rattle.memory.specs.Room.{placed, Written}
 use Rattle.memory.proofs.Pieces.{length_placed, placed_then, no_put}
 use Rattle.text.proofs.Pieced.{took, refused}
@@ -92,14 +92,14 @@ module _ {c : List ℕ} {offset : ℕ} {l out : List ℕ} {i k : ℕ} (g : Going
           frames_turn (later_of offset i) (drop i c) (rw (size_is, length-drop) (omega arith))
           ∙ ap (λ (fs : List Frame). frame ∷ fs) (rw (size_is, later_later offset i (2 + n), drop-drop (2 + n) i c, a))
 
-      pub stop_full : {b : Bar} {out' : List ℕ} → Written true k line out out' (Wrote.Refused b) → Digested c offset l out' (record { used = i; wrote = k })
+      pub stop_full : {b : Bar} {out' : List ℕ} → Written true k line out out' (Err b) → Digested c offset l out' (record { used = i; wrote = k })
       unfolding fitting
       stop_full w =
           let r = refused w in
           let n = ap length line_is in
           rw r.1 (stop g (rw turn (simp (lt-leb (length (line_at frame)) (length out - k) (omega (arith, g.room, r.0))))))
 
-      module _ {e : ℕ} {out' : List ℕ} (w : Written true k line out out' (Wrote.To e)) where
+      module _ {e : ℕ} {out' : List ℕ} (w : Written true k line out out' (Ok e)) where
         as_long : length out' ≡ length out
         as_long = rw (took w).2 (length_placed k line out (took w).0)
 

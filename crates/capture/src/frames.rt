@@ -3,7 +3,6 @@ ghost use Rattle.std.specs.Prelude.{◌+◌};
 ghost use Rattle.capture.specs.Frames.{Digested};
 
 use crate::margins::{later, size_of};
-use memory::Wrote;
 use message_line::write_line;
 
 // How many octets of a piece of capture were used, and how many octets of lines were written.
@@ -31,10 +30,10 @@ pub fn digest(piece: &[u8], offset: u64, out: &mut [u8]) -> Done
         }
         let end = start + n;
         match write_line(out, k, later(offset, start), &piece[start..end]) {
-            Wrote::Refused(_) => {
+            Err(_) => {
                 return Done { used: i, wrote: k };
             }
-            Wrote::To(e) => {
+            Ok(e) => {
                 k = e;
                 i = end;
             }

@@ -3,7 +3,7 @@ ghost use Rattle.std.specs.Prelude.{◌≡◌, true, ◌+◌, ◌*◌};
 ghost use Rattle.memory.specs.Room.{Written};
 ghost use Rattle.capture.specs.Margins.{later_of, first_line, last_line};
 
-use memory::{Wrote, write_octets};
+use memory::{Bar, write_octets};
 
 // The offset that lies so many octets after another; past the largest number, that number.
 #[tactic(auto, unfolding(crate::specs::Margins::later_of))]
@@ -26,7 +26,7 @@ pub(crate) fn size_of(high: u8, low: u8) -> usize
 }
 
 // Writes the line that comes before all others.
-pub fn write_first(buf: &mut [u8], at: usize) -> Wrote
+pub fn write_first(buf: &mut [u8], at: usize) -> Result<usize, Bar>
     ensures { Written true at first_line buf.old buf.new result }
 {
     write_octets(
@@ -38,7 +38,7 @@ pub fn write_first(buf: &mut [u8], at: usize) -> Wrote
 
 // Writes the line that comes after all others where so many octets were left at the capture's end: none, or `cut`.
 #[tactic(auto, unfolding(crate::specs::Margins::last_line))]
-pub fn write_last(buf: &mut [u8], at: usize, left: usize) -> Wrote
+pub fn write_last(buf: &mut [u8], at: usize, left: usize) -> Result<usize, Bar>
     ensures { Written true at (last_line left) buf.old buf.new result }
 {
     if left == 0 {

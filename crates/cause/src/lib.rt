@@ -1,4 +1,4 @@
-// Causes: the values that the box gives. `element` has what a Cause element says.
+// Causes: the values that the box gives. `element` has what a Option<u8> element says.
 #![tactic(auto)]
 
 pub mod element;
@@ -13,9 +13,3 @@ pub const NOT_SUBSCRIBED: u8 = 50;
 pub const NOT_ACCEPTED: u8 = 69;
 // The greatest value that a cause can have.
 pub const GREATEST_CAUSE: u8 = 127;
-
-#[derive(Clone, Copy)]
-pub enum Cause {
-    Absent,
-    Value(u8),
-}

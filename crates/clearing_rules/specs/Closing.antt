@@ -1,11 +1,9 @@
 -- DISCONNECT from the called side: the answers in it.
+use Rattle.services.specs.declared.ByService.{ByService}
 use Rattle.std.specs.Prelude.{Bool, cond, ◌||◌}
-use Rattle.services.specs.declared.Answers.{Answers}
-use Rattle.services.specs.declared.Facilities.{Facilities}
 use Rattle.services.specs.declared.Given.{Given}
 use Rattle.services.specs.declared.Said.{Said}
 use Rattle.services.specs.declared.Standing.{Standing}
-use Rattle.services.specs.declared.Standings.{Standings}
 use Rattle.services.specs.Standing.{awaits_of}
 use Rattle.sent.specs.declared.side.Side.{Side}
 
@@ -27,17 +25,17 @@ closing_standing_of s Given.Accepted = cond (awaits_of s) Standing.InForce s
 closing_standing_of s Given.Rejected = s
 
 -- no service is answered
-unfoldable pub silent_answers : Answers
+unfoldable pub silent_answers : ByService Given
 silent_answers = record { one = Given.Silent; two = Given.Silent; three = Given.Silent }
 
 -- "From the called side": the calling side's answers count for nothing
-abbrev pub heard_answers_of : Side → Answers → Answers
+abbrev pub heard_answers_of : Side → ByService Given → ByService Given
 heard_answers_of Side.Calling a = silent_answers
 heard_answers_of Side.Called a = a
 
 -- "rejections of the caller's open requests go on too, and an acceptance of open service 1 counts first and goes on".
 -- asks: the caller's own FACILITY request is open.
-unfoldable pub closing_facilities_of : Standings → Bool → Answers → Facilities
+unfoldable pub closing_facilities_of : ByService Standing → Bool → ByService Given → ByService Said
 closing_facilities_of s asks a =
     record {
       one = closing_said_of s.one a.one;

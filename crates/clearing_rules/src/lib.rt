@@ -5,10 +5,10 @@ ghost use Rattle.std.specs.Prelude.{◌≡◌};
 ghost use Rattle.clearing_rules.specs.Closing.{rejection_of, closing_said_of, closing_standing_of, heard_answers_of, closing_facilities_of};
 
 use sent::side::Side;
-use services::{Answers, Facilities, Given, Said, Standing, Standings, awaits};
+use services::{ByService, Given, Said, Standing, awaits};
 
 // No service is answered.
-const NO_ANSWERS: Answers = Answers {
+const NO_ANSWERS: ByService<Given> = ByService {
     one: Given::Silent,
     two: Given::Silent,
     three: Given::Silent,
@@ -51,7 +51,7 @@ pub fn closing_standing(s: Standing, g: Given) -> Standing
 
 // Only the called side has anything to answer.
 #[tactic(auto, unfolding(crate::specs::Closing::silent_answers))]
-pub fn heard_answers(side: Side, a: Answers) -> Answers
+pub fn heard_answers(side: Side, a: ByService<Given>) -> ByService<Given>
     ensures { result ≡ heard_answers_of side a }
 {
     match side {
@@ -62,7 +62,11 @@ pub fn heard_answers(side: Side, a: Answers) -> Answers
 
 // `asks` says whether the caller's own FACILITY request is open.
 #[tactic(auto, unfolding(crate::specs::Closing::closing_facilities_of))]
-pub fn closing_facilities(s: Standings, asks: bool, a: Answers) -> Facilities
+pub fn closing_facilities(
+    s: ByService<Standing>,
+    asks: bool,
+    a: ByService<Given>,
+) -> ByService<Said>
     ensures { result ≡ closing_facilities_of s asks a }
 {
     let one = s.one;
@@ -71,7 +75,7 @@ pub fn closing_facilities(s: Standings, asks: bool, a: Answers) -> Facilities
     let first = a.one;
     let second = a.two;
     let third = a.three;
-    Facilities {
+    ByService {
         one: closing_said(one, first),
         two: rejection(awaits(two), second),
         three: rejection(awaits(three) | asks, third),

@@ -1,4 +1,5 @@
 -- Whatever core meets the demands is this one.
+use Rattle.std.specs.Prelude.{Option, Some, None}
 use Prim.Native.Nat.{ℕ}
 use mathlib.Core.List.{List}
 use mathlib.Core.Bool.{cond}
@@ -12,8 +13,6 @@ use Rattle.user_element.specs.Element.{note_number_of}
 use Rattle.answer.specs.declared.Answer.{Answer}
 use Rattle.answer.specs.Answer.{number_of}
 use Rattle.sent.specs.declared.Message.{Message}
-use Rattle.sent.specs.declared.Sent.{Sent}
-use Rattle.sent.specs.declared.dispatch.Carrier.{Carrier}
 use Rattle.sent.specs.declared.side.Side.{Side}
 use Rattle.call.specs.declared.Call.{Call}
 use Rattle.event.specs.declared.Event.{Event}
@@ -72,25 +71,25 @@ same_number : (rows : Rows) (m n : ℕ) → Exactly rows m → Exactly rows n �
 same_number rows m n p q = (p n).1 ((q n).0 refl)
 
 -- what is told alike is sent alike
-absent : {m : Message} → Sent.Absent ≡ Sent.Present m → ⊥
+absent : {m : Message} → None ≡ Some m → ⊥
 absent {m} e = let z : ◌≡◌ {A = ℕ} 0 1 = cc in omega arith
 
-same_sent : (P : Message → Type 0) (s t : Sent) → IsWhatIsSent P s → IsWhatIsSent P t → s ≡ t
-same_sent P Sent.Absent Sent.Absent p q = refl
-same_sent P Sent.Absent (Sent.Present m) p q = absurd (absent ((p m).1 ((q m).0 refl)))
-same_sent P (Sent.Present m) t p q = sym ((q m).1 ((p m).0 refl))
+same_sent : (P : Message → Type 0) (s t : Option Message) → IsWhatIsSent P s → IsWhatIsSent P t → s ≡ t
+same_sent P None None p q = refl
+same_sent P None (Some m) p q = absurd (absent ((p m).1 ((q m).0 refl)))
+same_sent P (Some m) t p q = sym ((q m).1 ((p m).0 refl))
 
 same_call : (P : Call → Type 0) (c d : Call) → IsTheRecord P c → IsTheRecord P d → c ≡ d
 same_call P c d p q = (p d).1 ((q d).0 refl)
 
 -- and what is carried alike has one carrier
-nobody : {k : Service} → Carrier.Nobody ≡ Carrier.By k → ⊥
+nobody : {k : Service} → None ≡ Some k → ⊥
 nobody {k} e = let z : ◌≡◌ {A = ℕ} 0 1 = cc in omega arith
 
-same_bearer : (P : Service → Type 0) (x y : Carrier) → IsTheCarrier P x → IsTheCarrier P y → x ≡ y
-same_bearer P Carrier.Nobody Carrier.Nobody p q = refl
-same_bearer P Carrier.Nobody (Carrier.By k) p q = absurd (nobody ((p k).1 ((q k).0 refl)))
-same_bearer P (Carrier.By k) y p q = sym ((q k).1 ((p k).0 refl))
+same_bearer : (P : Service → Type 0) (x y : Option Service) → IsTheCarrier P x → IsTheCarrier P y → x ≡ y
+same_bearer P None None p q = refl
+same_bearer P None (Some k) p q = absurd (nobody ((p k).1 ((q k).0 refl)))
+same_bearer P (Some k) y p q = sym ((q k).1 ((p k).0 refl))
 
 -- what four of the demands fix of a reply
 pub same_record : (f : Core) → BecomesExactly f → (c : Call) (e : Event) (l : List ℕ) → (f c e l).call ≡ (step_of c e l).call

@@ -1,4 +1,6 @@
 -- Demand 1, from the promises on reading, on the table and on a call.
+use Rattle.std.specs.Prelude.{None, Result, Ok, Err}
+use Rattle.message_fields.specs.declared.Reading.{Reading}
 use Prim.Native.Nat.{ℕ, ◌<◌, ◌≤◌}
 use mathlib.Core.List.{List}
 use mathlib.Core.Logic.{◌⊎◌, inl, inr, ⊎_elim}
@@ -8,11 +10,9 @@ use native.Mathlib.Omega.{arith}
 use lib.ListN.{get_or, set}
 use Rattle.answer.specs.declared.Answer.{Answer}
 use Rattle.answer.specs.Answer.{number_of}
-use Rattle.sent.specs.declared.Sent.{Sent}
 use Rattle.sent.specs.declared.side.Side.{Side}
 use Rattle.event.specs.declared.Event.{Event}
 use Rattle.message_fields.specs.declared.Fault.{Fault}
-use Rattle.message_fields.specs.declared.Read.{Read}
 use Rattle.message_fields.specs.Numbers.{read_number}
 use Rattle.call.specs.declared.Call.{Call}
 use Rattle.call.specs.declared.reply.Reply.{Reply}
@@ -38,13 +38,13 @@ use Rattle.demands.specs.Demand1.{Listed, taken, out_of_phase, no_event, no_serv
 
 -- ---- reading
 
-read_small : (r : Read) → read_number r ≤ 5
-read_small (Read.Taken r) = omega arith
-read_small (Read.Refused Fault.Short) = omega arith
-read_small (Read.Refused Fault.TooLong) = omega arith
-read_small (Read.Refused Fault.Foreign) = omega arith
-read_small (Read.Refused Fault.Reference) = omega arith
-read_small (Read.Refused Fault.Kind) = omega arith
+read_small : (r : Result Reading Fault) → read_number r ≤ 5
+read_small (Ok r) = omega arith
+read_small (Err Fault.Short) = omega arith
+read_small (Err Fault.TooLong) = omega arith
+read_small (Err Fault.Foreign) = omega arith
+read_small (Err Fault.Reference) = omega arith
+read_small (Err Fault.Kind) = omega arith
 
 -- ---- the numbers
 
@@ -86,11 +86,11 @@ own_sent : {s : List Call} {place : ℕ} {o : Outcome} {r : Reply} (side : Side)
 own_sent Side.Calling g = ap (λ d. d.calling) g.dispatch
 own_sent Side.Called g = ap (λ d. d.called) g.dispatch
 
-silent_to : {o : Outcome} (side : Side) → Silent o → out_to o side ≡ Sent.Absent
+silent_to : {o : Outcome} (side : Side) → Silent o → out_to o side ≡ None
 silent_to Side.Calling s = s.calling
 silent_to Side.Called s = s.called
 
-unmoved_to : {c : Call} {r : Reply} (side : Side) → Unmoved c r → sent_to r side ≡ Sent.Absent
+unmoved_to : {c : Call} {r : Reply} (side : Side) → Unmoved c r → sent_to r side ≡ None
 unmoved_to Side.Calling u = u.calling
 unmoved_to Side.Called u = u.called
 
@@ -163,7 +163,7 @@ module _ (t : List Call) (n : ℕ) (e : Event) (l : List ℕ) where
   refusal : (x : Own t (step_table t n e l) n e l o) → (number_at t n e l ≡ 0 → ⊥) → Refusal (steps_from (get_or t x.place fresh_call) e) e (number_of (own x).answer) (own x)
   refusal x h = refusals _ e l (λ z. h (x.reply.number ∙ z))
 
-  quiet : (number_at t n e l ≡ 0 → ⊥) → (number_at t n e l ≡ 14 → ⊥) → (number_at t n e l ≡ 16 → ⊥) → (side : Side) → out_to o side ≡ Sent.Absent
+  quiet : (number_at t n e l ≡ 0 → ⊥) → (number_at t n e l ≡ 14 → ⊥) → (number_at t n e l ≡ 16 → ⊥) → (side : Side) → out_to o side ≡ None
   quiet a b c side =
       ⊎_elim (silent_to side)
       (λ x. own_sent side x.reply ∙ unmoved_to side ((refusal x a).others (λ z. b (x.reply.number ∙ z)) (λ z. c (x.reply.number ∙ z))))

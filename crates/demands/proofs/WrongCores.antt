@@ -1,13 +1,13 @@
 -- Each wrong core differs from ours at some event, in what the demand beside it fixes.
+use Rattle.std.specs.Prelude.{Option, Some, None}
+use Rattle.services.specs.declared.ByService.{ByService}
 use Prim.Native.Nat.{ℕ, ◌<◌}
 use mathlib.Core.List.{List, [], ◌∷◌}
 use mathlib.Core.Bool.{Bool, true, false}
 use mathlib.Core.Path.{◌≡◌, refl, sym, ◌∙◌, ap}
 use native.Mathlib.Omega.{arith}
-use Rattle.cause.specs.declared.Cause.{Cause}
 use Rattle.rights.specs.declared.Rights.{Rights}
 use Rattle.rights.specs.declared.Service.{Service}
-use Rattle.services.specs.declared.Answers.{Answers}
 use Rattle.services.specs.declared.Given.{Given}
 use Rattle.services.specs.declared.Request.{Request}
 use Rattle.services.specs.declared.Said.{Said}
@@ -18,8 +18,6 @@ use Rattle.phases.specs.declared.Phase.{Phase}
 use Rattle.answer.specs.Answer.{number_of}
 use Rattle.message_types.specs.declared.Kind.{Kind}
 use Rattle.sent.specs.declared.Message.{Message}
-use Rattle.sent.specs.declared.Sent.{Sent}
-use Rattle.sent.specs.declared.dispatch.Carrier.{Carrier}
 use Rattle.sent.specs.declared.side.Side.{Side}
 use Rattle.call.specs.declared.Call.{Call}
 use Rattle.call.specs.declared.reply.Reply.{Reply}
@@ -75,7 +73,7 @@ call_in phase one three mark =
       meters = record { calling = meter mark; called = meter mark };
     }
 
-abbrev saying : Given → Given → Answers
+abbrev saying : Given → Given → ByService Given
 saying one three = record { one = one; two = Given.Silent; three = three }
 
 -- an element of three octets
@@ -87,13 +85,13 @@ abbrev bit : Bool → ℕ
 bit false = 0
 bit true = 1
 
-abbrev from : Cause → ℕ
-from Cause.Absent = 128
-from (Cause.Value n) = n
+abbrev from : Option ℕ → ℕ
+from None = 128
+from (Some n) = n
 
-abbrev cause_in : Sent → ℕ
-cause_in Sent.Absent = 200
-cause_in (Sent.Present m) = from m.cause
+abbrev cause_in : Option Message → ℕ
+cause_in None = 200
+cause_in (Some m) = from m.cause
 
 abbrev asks_three : Said → ℕ
 asks_three Said.Nothing = 0
@@ -103,23 +101,23 @@ asks_three Said.Accepted = 0
 asks_three Said.ByUser = 0
 asks_three Said.ByNetwork = 0
 
-abbrev three_in : Sent → ℕ
-three_in Sent.Absent = 0
-three_in (Sent.Present m) = asks_three m.said.three
+abbrev three_in : Option Message → ℕ
+three_in None = 0
+three_in (Some m) = asks_three m.said.three
 
-abbrev element_in : Sent → ℕ
-element_in Sent.Absent = 0
-element_in (Sent.Present m) = bit m.element
+abbrev element_in : Option Message → ℕ
+element_in None = 0
+element_in (Some m) = bit m.element
 
-abbrev is_sent : Sent → ℕ
-is_sent Sent.Absent = 0
-is_sent (Sent.Present m) = 1
+abbrev is_sent : Option Message → ℕ
+is_sent None = 0
+is_sent (Some m) = 1
 
-abbrev bearer : Carrier → ℕ
-bearer Carrier.Nobody = 0
-bearer (Carrier.By Service.One) = 1
-bearer (Carrier.By Service.Two) = 2
-bearer (Carrier.By Service.Three) = 3
+abbrev bearer : Option Service → ℕ
+bearer None = 0
+bearer (Some Service.One) = 1
+bearer (Some Service.Two) = 2
+bearer (Some Service.Three) = 3
 
 abbrev is_closed : Standing → ℕ
 is_closed Standing.Unasked = 0
@@ -272,31 +270,31 @@ facts =
 by_record : (f : Core) (t : Trial) (look : Call → ℕ) (m n : ℕ) → look (ours t).call ≡ m → look (f t.call t.event t.element).call ≡ n → (m ≡ n → ⊥) → BecomesExactly f → ⊥
 by_record f t look m n p q x d = x (sym p ∙ sym (ap look (same_record f d t.call t.event t.element)) ∙ q)
 
-by_message : (f : Core) (t : Trial) (side : Side) (look : Sent → ℕ) (m n : ℕ) → look (sent_to (ours t) side) ≡ m → look (sent_to (f t.call t.event t.element) side) ≡ n → (m ≡ n → ⊥) → SendsExactly f → ⊥
+by_message : (f : Core) (t : Trial) (side : Side) (look : Option Message → ℕ) (m n : ℕ) → look (sent_to (ours t) side) ≡ m → look (sent_to (f t.call t.event t.element) side) ≡ n → (m ≡ n → ⊥) → SendsExactly f → ⊥
 by_message f t side look m n p q x d = x (sym p ∙ sym (ap look (same_messages f d t.call t.event t.element side)) ∙ q)
 
 by_carrier : (f : Core) (t : Trial) (m n : ℕ) → bearer (ours t).dispatch.carrier ≡ m → bearer (f t.call t.event t.element).dispatch.carrier ≡ n → (m ≡ n → ⊥) → CarriersExactly f → ⊥
 by_carrier f t m n p q x d = x (sym p ∙ sym (ap bearer (same_carrier f d t.call t.event t.element)) ∙ q)
 
 -- a message that is sent with a cause
-data Found (s : Sent) (n : ℕ) : Type 0 where
-  found : (m : Message) → s ≡ Sent.Present m → m.cause ≡ Cause.Value n → Found s n
+data Found (s : Option Message) (n : ℕ) : Type 0 where
+  found : (m : Message) → s ≡ Some m → m.cause ≡ Some n → Found s n
 
-told_in : (x : Cause) (n : ℕ) → n < 128 → from x ≡ n → x ≡ Cause.Value n
-told_in Cause.Absent n h e = absurd (omega arith)
-told_in (Cause.Value k) n h e = ap Cause.Value e
+told_in : (x : Option ℕ) (n : ℕ) → n < 128 → from x ≡ n → x ≡ Some n
+told_in None n h e = absurd (omega arith)
+told_in (Some k) n h e = ap Some e
 
-found_in : (s : Sent) (n : ℕ) → n < 128 → cause_in s ≡ n → Found s n
-found_in Sent.Absent n h e = absurd (omega arith)
-found_in (Sent.Present m) n h e = found m refl (told_in m.cause n h e)
+found_in : (s : Option Message) (n : ℕ) → n < 128 → cause_in s ≡ n → Found s n
+found_in None n h e = absurd (omega arith)
+found_in (Some m) n h e = found m refl (told_in m.cause n h e)
 
 -- whose word a cause is
-own_cause : {c : Call} {side to : Side} {n : ℕ} {a : Answers} {kind : Kind} {x : Cause} → CauseTold c (Event.Disconnect side n a) to kind x → x ≡ Cause.Value n
+own_cause : {c : Call} {side to : Side} {n : ℕ} {a : ByService Given} {kind : Kind} {x : Option ℕ} → CauseTold c (Event.Disconnect side n a) to kind x → x ≡ Some n
 own_cause (own e) = refl
 own_cause (fails x) = absurd (elim x [ ])
 own_cause (fails_too x) = absurd (elim x [ ])
 
-not_alerting : {n : ℕ} {a : Answers} {to : Side} → OwnWord n (Event.Alerting a) to → ⊥
+not_alerting : {n : ℕ} {a : ByService Given} {to : Side} → OwnWord n (Event.Alerting a) to → ⊥
 not_alerting x = elim x [ ]
 
 not_informing : {n : ℕ} {side to : Side} {more : Bool} → OwnWord n (Event.Information side more) to → ⊥

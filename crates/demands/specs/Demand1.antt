@@ -2,8 +2,9 @@
 -- the paper; a refusal changes nothing except the one congestion mark, and sends nothing but for 14's and 16's message.
 -- That a number is one of the paper's follows from the types of the replies; which it is and when, `Reads` says of
 -- octet strings, `Table` and `AnswersExactly` of events.
+use Rattle.std.specs.Prelude.{Option, None}
+use Rattle.sent.specs.declared.Message.{Message}
 use Rattle.std.specs.Prelude.{ℕ, ◌≤◌, List, ◌⊎◌, ◌≡◌, get_or, set}
-use Rattle.sent.specs.declared.Sent.{Sent}
 use Rattle.sent.specs.declared.side.Side.{Side}
 use Rattle.event.specs.declared.Event.{Event}
 use Rattle.message_fields.specs.Numbers.{read_number}
@@ -34,14 +35,14 @@ pub data Listed : ℕ → Type 0 where
   unsound : Listed 25
 
 -- what a side is sent at the table
-abbrev pub out_to : Outcome → Side → Sent
+abbrev pub out_to : Outcome → Side → Option Message
 out_to o Side.Calling = o.dispatch.calling
 out_to o Side.Called = o.dispatch.called
 
 -- what a side is sent, and the other side nothing
-pub record OneMessage (o : Outcome) (side : Side) (s : Sent) : Type 0 where
+pub record OneMessage (o : Outcome) (side : Side) (s : Option Message) : Type 0 where
   pub back : out_to o side ≡ s
-  pub on : out_to o (other side) ≡ Sent.Absent
+  pub on : out_to o (other side) ≡ None
 
 -- 14 at USER INFORMATION: one live record of the reference n has the sender's mark set and is else as it was, as all
 -- other records are, and the sender is told not ready; or nothing is changed and nothing is sent
@@ -53,7 +54,7 @@ pub record MarkSet (t s : List Call) (n : ℕ) (o : Outcome) (side : Side) : Typ
 
 pub record NothingDone (t s : List Call) (o : Outcome) (side : Side) : Type 0 where
   pub table : s ≡ t
-  pub message : OneMessage o side Sent.Absent
+  pub message : OneMessage o side None
 
 pub record EventEnds (t : List Call) (n : ℕ) (e : Event) (l : List ℕ) : Type 0 where
   pub number : Listed (number_at t n e l)
@@ -63,7 +64,7 @@ pub record EventEnds (t : List Call) (n : ℕ) (e : Event) (l : List ℕ) : Type
       Informs (λ side. MarkSet t (step_table t n e l) n (step_outcome t n e l) side ⊎ NothingDone t (step_table t n e l) (step_outcome t n e l) side) e
   pub quiet :
       (number_at t n e l ≡ 0 → ⊥) → (number_at t n e l ≡ 14 → ⊥) → (number_at t n e l ≡ 16 → ⊥) →
-      (side : Side) → out_to (step_outcome t n e l) side ≡ Sent.Absent
+      (side : Side) → out_to (step_outcome t n e l) side ≡ None
   pub sixteen : number_at t n e l ≡ 16 → Says (λ side what. OneMessage (step_outcome t n e l) side rejected_by_network) e
 
 pub record Demand1 : Type 0 where

@@ -1,8 +1,9 @@
 -- "Any two replies it allows are shown equal." A public contract has one of six forms, and of each form: two results
 -- of one input that meet it are the same, and so is every octet and record that was lent. Which function has which form
 -- is listed in docs/made/CONTRACTS.md.
+use Rattle.std.specs.Prelude.{Result}
+use Rattle.memory.specs.declared.Bar.{Bar}
 use Rattle.std.specs.Prelude.{ℕ, List, Bool, ◌≡◌}
-use Rattle.memory.specs.declared.Wrote.{Wrote}
 use Rattle.memory.specs.Room.{Written, Kept}
 use Rattle.text.specs.declared.octets.Reading.{Reading}
 use Rattle.text.specs.declared.octets.Spelt.{Spelt}
@@ -19,7 +20,7 @@ pub record OneReply : Type 1 where
   pub valued : (A : Type 0) (value r s : A) → r ≡ value → s ≡ value → r ≡ s
   -- a piece was to be written into lent memory
   pub written :
-      (fits : Bool) (at : ℕ) (p l l' l'' : List ℕ) (r s : Wrote) → Written fits at p l l' r → Written fits at p l l'' s → (r ≡ s) × (l' ≡ l'')
+      (fits : Bool) (at : ℕ) (p l l' l'' : List ℕ) (r s : Result ℕ Bar) → Written fits at p l l' r → Written fits at p l l'' s → (r ≡ s) × (l' ≡ l'')
   -- octets of lent memory are moved to its front
   pub kept : (from to : ℕ) (l l' l'' : List ℕ) (r s : ℕ) → Kept from to l l' r → Kept from to l l'' s → (r ≡ s) × (l' ≡ l'')
   -- a piece of text is read as octets into lent memory

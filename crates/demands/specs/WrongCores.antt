@@ -2,20 +2,17 @@
 -- refuses, has one fixed reply, sends nothing, or handles only SETUP and nods later"; and ours with its replies
 -- changed, so that the rule named is broken (by some of them another besides: what is changed is the reply, whatever
 -- the event was).
+use Rattle.std.specs.Prelude.{Option, Some, None}
+use Rattle.services.specs.declared.ByService.{ByService}
+use Rattle.sent.specs.declared.side.BySide.{BySide}
 use Rattle.std.specs.Prelude.{ℕ, ◌+◌, List, Bool, true, false, cond, ◌&&◌, ◌||◌, eqb, ltb}
-use Rattle.cause.specs.declared.Cause.{Cause}
 use Rattle.rights.specs.declared.Service.{Service}
 use Rattle.services.specs.declared.Said.{Said}
 use Rattle.services.specs.declared.Standing.{Standing}
-use Rattle.services.specs.declared.Standings.{Standings}
-use Rattle.facility_rules.specs.declared.Asking.{Asking}
 use Rattle.user_element.specs.declared.Note.{Note}
 use Rattle.answer.specs.declared.Answer.{Answer}
 use Rattle.flow_meter.specs.declared.Meter.{Meter}
-use Rattle.flow_meter.specs.declared.call_meters.Meters.{Meters}
 use Rattle.sent.specs.declared.Message.{Message}
-use Rattle.sent.specs.declared.Sent.{Sent}
-use Rattle.sent.specs.declared.dispatch.Carrier.{Carrier}
 use Rattle.sent.specs.declared.dispatch.Dispatch.{Dispatch}
 use Rattle.message_types.specs.Kind.{kind_octet}
 use Rattle.call.specs.declared.Call.{Call}
@@ -37,7 +34,7 @@ idle c a =
       call = c;
       answer = a;
       note = Note.Clear;
-      dispatch = record { calling = Sent.Absent; called = Sent.Absent; carrier = Carrier.Nobody };
+      dispatch = record { calling = None; called = None; carrier = None };
     }
 
 -- is idle at every event, with any answers
@@ -50,13 +47,13 @@ fixed r c e l = r
 abbrev pub sending : Reply → Dispatch → Reply
 sending r dispatch = record { call = r.call; answer = r.answer; note = r.note; dispatch = dispatch }
 
-abbrev pub with_sent : Reply → Sent → Sent → Reply
+abbrev pub with_sent : Reply → Option Message → Option Message → Reply
 with_sent r calling called =
     sending r (record { calling = calling; called = called; carrier = r.dispatch.carrier })
 
 -- does what a core does, but for its messages
 abbrev pub mute : Core → Core
-mute f c e l = with_sent (f c e l) Sent.Absent Sent.Absent
+mute f c e l = with_sent (f c e l) None None
 
 -- does what a core does at SETUP, and later answers 0 and does nothing
 abbrev pub nods : Core → Core
@@ -67,7 +64,7 @@ abbrev pub but : (Call → Reply → Reply) → Core
 but g c e l = g c (step_of c e l)
 
 -- the reply with other services, requests and meters in its record
-abbrev pub holding : Reply → Standings → Asking → Meters → Reply
+abbrev pub holding : Reply → ByService Standing → BySide Bool → BySide Meter → Reply
 holding r standings asking meters =
     record {
       call = altered r.call r.call.phase standings asking meters;
@@ -76,7 +73,7 @@ holding r standings asking meters =
       dispatch = r.dispatch;
     }
 
-abbrev pub asking_but : Reply → Asking → Reply
+abbrev pub asking_but : Reply → BySide Bool → Reply
 asking_but r asking = holding r r.call.standings asking r.call.meters
 
 abbrev pub meters_but : Reply → Meter → Meter → Reply
@@ -146,18 +143,18 @@ invents c r =
     meters_but r (with_credit r.call.meters.calling (r.call.meters.calling.credit + 1)) r.call.meters.called
 
 -- messages with something changed in each
-abbrev pub in_each : (Message → Message) → Sent → Sent
-in_each g Sent.Absent = Sent.Absent
-in_each g (Sent.Present m) = Sent.Present (g m)
+abbrev pub in_each : (Message → Message) → Option Message → Option Message
+in_each g None = None
+in_each g (Some m) = Some (g m)
 
-abbrev pub with_cause : Message → Cause → Message
+abbrev pub with_cause : Message → Option ℕ → Message
 with_cause m cause =
     record { kind = m.kind; cause = cause; level = m.level; said = m.said; more = m.more; element = m.element }
 
 -- the cause new wherever it was old
-abbrev pub renamed : ℕ → ℕ → Cause → Cause
-renamed old new Cause.Absent = Cause.Absent
-renamed old new (Cause.Value n) = Cause.Value (cond (eqb n old) new n)
+abbrev pub renamed : ℕ → ℕ → Option ℕ → Option ℕ
+renamed old new None = None
+renamed old new (Some n) = Some (cond (eqb n old) new n)
 
 -- the caller hears 29 where a required service fails
 abbrev pub says29 : Call → Reply → Reply
@@ -179,19 +176,19 @@ congests29 c r =
 
 -- congestion is told without its cause
 abbrev pub causeless : Message → Message
-causeless m = cond (eqb (kind_octet m.kind) 0x79) (with_cause m Cause.Absent) m
+causeless m = cond (eqb (kind_octet m.kind) 0x79) (with_cause m None) m
 
 abbrev pub mumbles : Call → Reply → Reply
 mumbles c r = with_sent r (in_each causeless r.dispatch.calling) (in_each causeless r.dispatch.called)
 
 -- RELEASE COMPLETE goes back to its sender, and is not passed on
-abbrev pub cause_absent : Cause → Bool
-cause_absent Cause.Absent = true
-cause_absent (Cause.Value n) = false
+abbrev pub cause_absent : Option ℕ → Bool
+cause_absent None = true
+cause_absent (Some n) = false
 
-abbrev pub bare_release : Sent → Bool
-bare_release Sent.Absent = false
-bare_release (Sent.Present m) = eqb (kind_octet m.kind) 0x5A && cause_absent m.cause
+abbrev pub bare_release : Option Message → Bool
+bare_release None = false
+bare_release (Some m) = eqb (kind_octet m.kind) 0x5A && cause_absent m.cause
 
 abbrev pub returns : Call → Reply → Reply
 returns c r =
@@ -221,11 +218,11 @@ abbrev pub leaves_element : Call → Reply → Reply
 leaves_element c r = with_sent r (in_each without_element r.dispatch.calling) (in_each without_element r.dispatch.called)
 
 -- service 3 is said to carry what service 2's count paid for
-abbrev pub three_for_two : Carrier → Carrier
-three_for_two Carrier.Nobody = Carrier.Nobody
-three_for_two (Carrier.By Service.One) = Carrier.By Service.One
-three_for_two (Carrier.By Service.Two) = Carrier.By Service.Three
-three_for_two (Carrier.By Service.Three) = Carrier.By Service.Three
+abbrev pub three_for_two : Option Service → Option Service
+three_for_two None = None
+three_for_two (Some Service.One) = Some Service.One
+three_for_two (Some Service.Two) = Some Service.Three
+three_for_two (Some Service.Three) = Some Service.Three
 
 abbrev pub charges_three : Call → Reply → Reply
 charges_three c r =

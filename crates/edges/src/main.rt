@@ -9,23 +9,22 @@ use crate::lends::{spend_in, tick_in};
 use answer::{note_number, number};
 use call::Call;
 use call::reply::Reply;
-use cause::Cause;
 use event::Event;
 use facility_rules::What;
 use flow_meter::Meter;
 use flow_meter::lent::{spent_number, ticked_number};
 use message_types::kind_octet;
 use rights::Rights;
+use sent::Message;
 use sent::side::Side;
-use sent::{Message, Sent};
-use services::{Answers, Facilities, Given, Request, Requests, Said};
+use services::{ByService, Given, Request, Said};
 use streams::{Host, send};
 use text::page::{add, add_decimal, add_hex, text_end};
 
-fn show_cause(page: &mut [u8; 4096], c: Cause) {
+fn show_cause(page: &mut [u8; 4096], c: Option<u8>) {
     match c {
-        Cause::Absent => {}
-        Cause::Value(n) => {
+        None => {}
+        Some(n) => {
             add(page, b".");
             add_decimal(page, n as u64);
         }
@@ -56,7 +55,7 @@ fn show_said(page: &mut [u8; 4096], service: &[u8], s: Said) {
     }
 }
 
-fn show_facilities(page: &mut [u8; 4096], f: Facilities) {
+fn show_facilities(page: &mut [u8; 4096], f: ByService<Said>) {
     let one = f.one;
     let two = f.two;
     let three = f.three;
@@ -77,12 +76,12 @@ fn show_message(page: &mut [u8; 4096], m: Message) {
     show_facilities(page, said);
 }
 
-fn show_sent(page: &mut [u8; 4096], s: Sent) {
+fn show_sent(page: &mut [u8; 4096], s: Option<Message>) {
     match s {
-        Sent::Absent => {
+        None => {
             add(page, b" -");
         }
-        Sent::Present(m) => show_message(page, m),
+        Some(m) => show_message(page, m),
     }
 }
 
@@ -131,7 +130,7 @@ fn sets_up(
     page: &mut [u8; 4096],
     name: &[u8],
     r: Rights,
-    requests: Requests,
+    requests: ByService<Request>,
     element: &[u8],
 ) -> Call {
     let e = Event::Setup {
@@ -153,21 +152,21 @@ fn rights(services: u8, late: bool, limit: u8) -> Rights {
     }
 }
 
-fn requests(one: Request, two: Request, three: Request) -> Requests {
-    Requests {
+fn requests(one: Request, two: Request, three: Request) -> ByService {
+    ByService {
         one: one,
         two: two,
         three: three,
     }
 }
 
-fn nothing_asked() -> Requests {
+fn nothing_asked() -> ByService {
     requests(Request::Unasked, Request::Unasked, Request::Unasked)
 }
 
 // The same answer to every service.
-fn answers(g: Given) -> Answers {
-    Answers {
+fn answers(g: Given) -> ByService {
+    ByService {
         one: g,
         two: g,
         three: g,
@@ -343,7 +342,7 @@ fn facilities(page: &mut [u8; 4096]) {
 // 1 is not answered and 3 is rejected.
 fn rejects(page: &mut [u8; 4096], name: &[u8], c: Call) {
     let e = Event::Connect {
-        answers: Answers {
+        answers: ByService {
             one: Given::Silent,
             two: Given::Silent,
             three: Given::Rejected,

@@ -1,19 +1,17 @@
 -- What one element adds to what was found.
+use Rattle.std.specs.Prelude.{Option, Some, None}
+use Rattle.message_fields.specs.declared.Place.{Place}
 use Prim.Native.Nat.{ℕ, ◌+◌}
 use mathlib.Core.List.{List, ◌∷◌, ◌++◌}
 use mathlib.Core.Path.{◌≡◌, refl}
 use borrow.Author.Tests.{ne_eqb}
 use lib.ListN.{length}
-use Rattle.cause.specs.declared.Cause.{Cause}
 use Rattle.facility.specs.declared.Component.{Component}
-use Rattle.facility.specs.declared.Facility.{Facility}
 use Rattle.cause.specs.Element.{cause_of}
 use Rattle.facility.specs.Forms.{facility_of}
 use Rattle.message_fields.specs.declared.Single.{Single}
 use Rattle.message_fields.specs.declared.Facilities.{Facilities}
 use Rattle.message_fields.specs.declared.Header.{Header}
-use Rattle.message_fields.specs.declared.Place.{Place}
-use Rattle.elements.specs.declared.so_far.Seen.{Seen}
 use Rattle.elements.specs.declared.so_far.Found.{Found}
 use Rattle.elements.specs.Elements.{Element}
 use Rattle.elements.specs.Single.{single_of, or_single}
@@ -21,9 +19,9 @@ use Rattle.elements.specs.SoFar.{note_cause, one_more, note_facility, note_place
 use Rattle.elements.specs.Meaning.{first_single, first_cause, first_place, and_says, components, first_three}
 use Rattle.elements.specs.Scan.{cause_then, listed, place_then, reading_from, Adds}
 
-cause_law : (s : Seen) (b : List ℕ) (c : Cause) → cause_then (note_cause s b) c ≡ cause_then s (cause_of b)
-cause_law Seen.Unseen b c = refl
-cause_law (Seen.First v) b c = refl
+cause_law : (s : Option (Option ℕ)) (b : List ℕ) (c : Option ℕ) → cause_then (note_cause s b) c ≡ cause_then s (cause_of b)
+cause_law None b c = refl
+cause_law (Some v) b c = refl
 
 more_law : (f : Facilities) (n : Component) (cs : List Component) → first_three (listed (one_more f n) ++ cs) ≡ first_three (listed f ++ (n ∷ cs))
 more_law Facilities.Zero n cs = refl
@@ -31,13 +29,13 @@ more_law (Facilities.One a) n cs = refl
 more_law (Facilities.Two a b) n cs = refl
 more_law (Facilities.Three a b c) n cs = refl
 
-facility_law : (f : Facilities) (new : Facility) (cs : List Component) → first_three (listed (note_facility f new) ++ cs) ≡ first_three (listed f ++ and_says new cs)
-facility_law f Facility.Absent cs = refl
-facility_law f (Facility.Says n) cs = more_law f n cs
+facility_law : (f : Facilities) (new : Option Component) (cs : List Component) → first_three (listed (note_facility f new) ++ cs) ≡ first_three (listed f ++ and_says new cs)
+facility_law f None cs = refl
+facility_law f (Some n) cs = more_law f n cs
 
-place_law : (p : Place) (i n : ℕ) (q : Place) → place_then (note_place p i n) q ≡ place_then p (Place.At i n)
-place_law Place.Absent i n q = refl
-place_law (Place.At j k) i n q = refl
+place_law : (p : Option Place) (i n : ℕ) (q : Option Place) → place_then (note_place p i n) q ≡ place_then p (Some (record { at = i; size = n }))
+place_law None i n q = refl
+place_law (Some s) i n q = refl
 
 single_law : (s t u : Single) → or_single (or_single s t) u ≡ or_single s (or_single t u)
 single_law Single.Absent t u = refl

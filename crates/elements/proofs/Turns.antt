@@ -1,4 +1,7 @@
 -- One turn of the scan: what was found and what is left give what there was.
+use Rattle.std.specs.Prelude.{Option, Some, None, Result, Ok, Err}
+use Rattle.message_fields.specs.declared.Reading.{Reading}
+use Rattle.message_fields.specs.declared.Place.{Place}
 use Prim.Native.Nat.{ℕ, ◌<◌, ◌≤◌}
 use mathlib.Core.List.{List, [], append-nil}
 use mathlib.Core.Bool.{Bool, true, false, cond}
@@ -7,16 +10,11 @@ use mathlib.Core.Path.{◌≡◌, refl, sym}
 use native.Mathlib.Omega.{arith}
 use borrow.Author.Tests.{le-leb, lt-leb}
 use lib.ListN.{length, get_or, drop}
-use Rattle.cause.specs.declared.Cause.{Cause}
 use Rattle.message_fields.specs.declared.Single.{Single}
 use Rattle.message_fields.specs.declared.Facilities.{Facilities}
 use Rattle.message_fields.specs.declared.Header.{Header}
-use Rattle.message_fields.specs.declared.Place.{Place}
-use Rattle.elements.specs.declared.so_far.Seen.{Seen}
 use Rattle.elements.specs.declared.so_far.Found.{Found}
 use Rattle.message_fields.specs.declared.Fault.{Fault}
-use Rattle.message_fields.specs.declared.Read.{Read}
-use Rattle.elements.specs.declared.End.{End}
 use Rattle.elements.specs.Elements.{Element, Split, cut, whole, then, elements, is_whole, counted, between, Ended, Ends}
 use Rattle.elements.specs.Single.{or_single}
 use Rattle.elements.specs.SoFar.{cause_seen}
@@ -25,11 +23,11 @@ use Rattle.elements.specs.Scan.{cause_then, listed, place_then, reading_from, Ad
 use Rattle.elements.proofs.Splitting.{none_left}
 
 -- what the end of an element says, by its answer
-module _ (m : List ℕ) (i : ℕ) (x : End) where
-  pub to : (e : ℕ) → x ≡ End.To e → Ends m i x → Ended m i e
+module _ (m : List ℕ) (i : ℕ) (x : Option ℕ) where
+  pub to : (e : ℕ) → x ≡ Some e → Ends m i x → Ended m i e
   to e p h = rw p at h
 
-  pub is_cut : x ≡ End.Cut → Ends m i x → elements i 0 (drop i m) ≡ cut
+  pub is_cut : x ≡ None → Ends m i x → elements i 0 (drop i m) ≡ cut
   is_cut p h = rw p at h
 
 -- whether every part is there, one element at a time
@@ -49,16 +47,16 @@ module _ (m : List ℕ) (i : ℕ) where
   whole_end c = rw (none_left m i c) refl
 
 abbrev pub nothing : Found
-nothing = record { single = Single.Absent; cause = Seen.Unseen; facility = Facilities.Zero; user = Place.Absent }
+nothing = record { single = Single.Absent; cause = None; facility = Facilities.Zero; user = None }
 
 -- the answer where f was found, and these are left
-unfoldable pub going_on : Header → Bool → Found → Split → Read
-going_on h pass f cut = Read.Refused Fault.Short
-going_on h pass f (whole es) = Read.Taken (reading_from h f (counted pass es))
+unfoldable pub going_on : Header → Bool → Found → Split → Result Reading Fault
+going_on h pass f cut = Err Fault.Short
+going_on h pass f (whole es) = Ok (reading_from h f (counted pass es))
 
 -- the answer where f was found, and of the rest only the lengths count
-unfoldable pub locked : Header → Found → Split → Read
-locked h f s = cond (is_whole s) (taken_with h f) (Read.Refused Fault.Short)
+unfoldable pub locked : Header → Found → Split → Result Reading Fault
+locked h f s = cond (is_whole s) (taken_with h f) (Err Fault.Short)
 
 pub at_first : (h : Header) (s : Split) → going_on h false nothing s ≡ taken_from h s
 unfolding going_on taken_from reading_from reading_of
@@ -72,9 +70,9 @@ single_end Single.MoreData = refl
 single_end Single.Ready = refl
 single_end Single.NotReady = refl
 
-cause_end : (s : Seen) → cause_then s Cause.Absent ≡ cause_seen s
-cause_end Seen.Unseen = refl
-cause_end (Seen.First c) = refl
+cause_end : (s : Option (Option ℕ)) → cause_then s None ≡ cause_seen s
+cause_end None = refl
+cause_end (Some c) = refl
 
 facility_end : (f : Facilities) → first_three (listed f) ≡ f
 facility_end Facilities.Zero = refl
@@ -82,11 +80,11 @@ facility_end (Facilities.One a) = refl
 facility_end (Facilities.Two a b) = refl
 facility_end (Facilities.Three a b c) = refl
 
-place_end : (p : Place) → place_then p Place.Absent ≡ p
-place_end Place.Absent = refl
-place_end (Place.At i n) = refl
+place_end : (p : Option Place) → place_then p None ≡ p
+place_end None = refl
+place_end (Some s) = refl
 
-pub at_last : (h : Header) (f : Found) → Read.Taken (reading_from h f []) ≡ taken_with h f
+pub at_last : (h : Header) (f : Found) → Ok (reading_from h f []) ≡ taken_with h f
 unfolding reading_from first_single first_cause first_place components
 at_last h f = simp (single_end f.single, cause_end f.cause, append-nil (listed f.facility), facility_end f.facility, place_end f.user)
 
@@ -130,7 +128,7 @@ module _ (h : Header) where
 
   -- the ways out
   module _ (m : List ℕ) (i : ℕ) (f : Found) where
-    pub out_cut : (pass : Bool) → elements i 0 (drop i m) ≡ cut → Read.Refused Fault.Short ≡ going_on h pass f (elements i 0 (drop i m))
+    pub out_cut : (pass : Bool) → elements i 0 (drop i m) ≡ cut → Err Fault.Short ≡ going_on h pass f (elements i 0 (drop i m))
     unfolding going_on
     out_cut pass c = rw c refl
 
@@ -140,7 +138,7 @@ module _ (h : Header) where
 
   -- past the scan every part is there, or not
   module _ (f : Found) (s : Split) where
-    pub out_short : is_whole s ≡ false → Read.Refused Fault.Short ≡ locked h f s
+    pub out_short : is_whole s ≡ false → Err Fault.Short ≡ locked h f s
     unfolding locked
     out_short c = rw c refl
 

@@ -1,6 +1,6 @@
 -- "Elements: an octet of 80 or more stands alone; otherwise a length octet and that many octets follow."
+use Rattle.std.specs.Prelude.{Option, Some, None}
 use Rattle.std.specs.Prelude.{ℕ, zero, suc, ◌+◌, ◌-◌, ◌<◌, ◌≤◌, List, [], ◌∷◌, ◌≡◌, Bool, true, false, cond, ◌&&◌, length, get_or, take, drop, leb}
-use Rattle.elements.specs.declared.End.{End}
 
 -- where an element starts, its first octet, and the octets after its length
 pub record Element : Type 0 where
@@ -59,6 +59,6 @@ pub record Ended (m : List ℕ) (i e : ℕ) : Type 0 where
   pub long : get_or m i 0 < 128 → i + 2 ≤ e
   pub turn : elements i 0 (drop i m) ≡ then (between m i e) (elements e 0 (drop e m))
 
-abbrev pub Ends : List ℕ → ℕ → End → Type 0
-Ends m i (End.To e) = Ended m i e
-Ends m i End.Cut = elements i 0 (drop i m) ≡ cut
+abbrev pub Ends : List ℕ → ℕ → Option ℕ → Type 0
+Ends m i (Some e) = Ended m i e
+Ends m i None = elements i 0 (drop i m) ≡ cut

@@ -1,19 +1,17 @@
 -- What the elements of a message say that count.
+use Rattle.std.specs.Prelude.{Option, Some, None, Result, Ok, Err, ℕ}
+use Rattle.message_fields.specs.declared.Place.{Place}
 use Rattle.std.specs.Prelude.{◌+◌, List, [], ◌∷◌, false, cond, length, eqb}
-use Rattle.cause.specs.declared.Cause.{Cause}
 use Rattle.facility.specs.declared.Component.{Component}
-use Rattle.facility.specs.declared.Facility.{Facility}
 use Rattle.cause.specs.Element.{cause_of}
 use Rattle.facility.specs.Forms.{facility_of}
 use Rattle.message_types.specs.declared.Kind.{Kind}
 use Rattle.message_fields.specs.declared.Single.{Single}
 use Rattle.message_fields.specs.declared.Facilities.{Facilities}
 use Rattle.message_fields.specs.declared.Header.{Header}
-use Rattle.message_fields.specs.declared.Place.{Place}
 use Rattle.elements.specs.Single.{or_single, single_of}
 use Rattle.message_fields.specs.declared.Reading.{Reading}
 use Rattle.message_fields.specs.declared.Fault.{Fault}
-use Rattle.message_fields.specs.declared.Read.{Read}
 use Rattle.elements.specs.Elements.{Element, Split, cut, whole, counted}
 
 -- "The first Cause and level count."
@@ -21,19 +19,19 @@ unfoldable pub first_single : Kind → List Element → Single
 first_single k [] = Single.Absent
 first_single k (e ∷ es) = or_single (single_of k e.id) (first_single k es)
 
-unfoldable pub first_cause : List Element → Cause
-first_cause [] = Cause.Absent
+unfoldable pub first_cause : List Element → Option ℕ
+first_cause [] = None
 first_cause (e ∷ es) = cond (eqb e.id 0x08) (cause_of e.body) (first_cause es)
 
 -- "The first User-user element counts": where it starts, and how many octets it has with its first two
-unfoldable pub first_place : List Element → Place
-first_place [] = Place.Absent
-first_place (e ∷ es) = cond (eqb e.id 0x7E) (Place.At e.at (length e.body + 2)) (first_place es)
+unfoldable pub first_place : List Element → Option Place
+first_place [] = None
+first_place (e ∷ es) = cond (eqb e.id 0x7E) (Some (record { at = e.at; size = (length e.body + 2) })) (first_place es)
 
 -- what the Facility elements say that can be read, in order
-abbrev pub and_says : Facility → List Component → List Component
-and_says Facility.Absent cs = cs
-and_says (Facility.Says c) cs = c ∷ cs
+abbrev pub and_says : Option Component → List Component → List Component
+and_says None cs = cs
+and_says (Some c) cs = c ∷ cs
 
 unfoldable pub components : List Element → List Component
 components [] = []
@@ -60,6 +58,6 @@ reading_of h es =
       user = first_place es;
     }
 
-unfoldable pub taken_from : Header → Split → Read
-taken_from h cut = Read.Refused Fault.Short
-taken_from h (whole es) = Read.Taken (reading_of h (counted false es))
+unfoldable pub taken_from : Header → Split → Result Reading Fault
+taken_from h cut = Err Fault.Short
+taken_from h (whole es) = Ok (reading_of h (counted false es))

@@ -7,36 +7,29 @@ ghost use Rattle.elements.specs.Meaning.{taken_from};
 ghost use Rattle.elements.specs.Scan.{Adds, taken_with};
 
 use crate::single::{first_single, single_in};
-use crate::so_far::{Found, Seen, cause_seen, first_cause, first_place, with_facility};
+use crate::so_far::{Found, cause_seen, first_cause, first_place, with_facility};
 use facility::forms::facility_in;
 use memory::octet::wide;
-use message_fields::{Facilities, Fault, Header, Message, Place, Read, Reading, Single};
+use message_fields::{Facilities, Fault, Header, Message, Reading, Single};
 
 mod single;
 pub mod so_far;
 
-// Where the element at a place ends, if it does.
-#[derive(Clone, Copy)]
-enum End {
-    To(usize),
-    Cut,
-}
-
-fn end_of(m: &[u8], i: usize) -> End
+fn end_of(m: &[u8], i: usize) -> Option<usize>
     requires { i < length m.now }
     ensures { Ends m.now i result }
 {
     if m[i] >= 0x80 {
-        return End::To(i + 1);
+        return Some(i + 1);
     }
     if m.len() - i < 2 {
-        return End::Cut;
+        return None;
     }
     let n = wide(m[i + 1]);
     if m.len() - i - 2 < n {
-        return End::Cut;
+        return None;
     }
-    End::To(i + 2 + n)
+    Some(i + 2 + n)
 }
 
 // What the element of m from i to e adds to what was found.
@@ -79,7 +72,7 @@ fn note(h: Header, f: Found, m: &[u8], i: usize, e: usize) -> Found
 }
 
 // The fields that were found, with what the header says.
-fn taken(h: Header, f: Found) -> Read
+fn taken(h: Header, f: Found) -> Result<Reading, Fault>
     ensures { result ≡ taken_with h f }
 {
     let single = f.single;
@@ -92,7 +85,7 @@ fn taken(h: Header, f: Found) -> Read
         cause: cause_seen(cause),
         facility: facility,
     };
-    Read::Taken(Reading {
+    Ok(Reading {
         message: message,
         user: user,
     })
@@ -104,7 +97,7 @@ fn ends_whole(m: &[u8], start: usize) -> bool
 {
     let mut i = start;
     while i < m.len() {
-        let End::To(e) = end_of(m, i) else {
+        let Some(e) = end_of(m, i) else {
             return false;
         };
         i = e;
@@ -113,21 +106,21 @@ fn ends_whole(m: &[u8], start: usize) -> bool
 }
 
 // The elements from a place on. A locking shift ends the search; the lengths after it are still checked.
-pub fn scan(m: &[u8], start: usize, h: Header) -> Read
+pub fn scan(m: &[u8], start: usize, h: Header) -> Result<Reading, Fault>
     ensures { result ≡ taken_from h (elements start 0 (drop start m.now)) }
 {
     let mut i = start;
     let mut pass = false;
     let mut f = Found {
         single: Single::Absent,
-        cause: Seen::Unseen,
+        cause: None,
         facility: Facilities::Zero,
-        user: Place::Absent,
+        user: None,
     };
     'scan: while i < m.len() {
         let at = i;
-        let End::To(e) = end_of(m, at) else {
-            return Read::Refused(Fault::Short);
+        let Some(e) = end_of(m, at) else {
+            return Err(Fault::Short);
         };
         i = e;
         if pass {
@@ -147,7 +140,7 @@ pub fn scan(m: &[u8], start: usize, h: Header) -> Read
         }
     }
     if !ends_whole(m, i) {
-        return Read::Refused(Fault::Short);
+        return Err(Fault::Short);
     }
     taken(h, f)
 }

@@ -2,42 +2,34 @@
 ghost use Rattle.std.specs.Prelude.{◌≡◌};
 ghost use Rattle.elements.specs.SoFar.{note_cause, note_facility, note_place, cause_seen};
 
-use cause::Cause;
 use cause::element::cause_in;
-use facility::Facility;
+use facility::Component;
 use message_fields::{Facilities, Place, Single};
-
-// Whether a Cause element was met, and what the first one says.
-#[derive(Clone, Copy)]
-pub enum Seen {
-    Unseen,
-    First(Cause),
-}
 
 // What the scan has found so far.
 #[derive(Clone, Copy)]
 pub struct Found {
     pub single: Single,
-    pub cause: Seen,
+    pub cause: Option<Option<u8>>,
     pub facility: Facilities,
-    pub user: Place,
+    pub user: Option<Place>,
 }
 
-pub(crate) fn first_cause(c: Seen, body: &[u8]) -> Seen
+pub(crate) fn first_cause(c: Option<Option<u8>>, body: &[u8]) -> Option<Option<u8>>
     ensures { result ≡ note_cause c body.now }
 {
     match c {
-        Seen::Unseen => Seen::First(cause_in(body)),
-        Seen::First(_) => c,
+        None => Some(cause_in(body)),
+        Some(_) => c,
     }
 }
 
-pub(crate) fn with_facility(f: Facilities, new: Facility) -> Facilities
+pub(crate) fn with_facility(f: Facilities, new: Option<Component>) -> Facilities
     ensures { result ≡ note_facility f new }
 {
     match new {
-        Facility::Absent => f,
-        Facility::Says(n) => match f {
+        None => f,
+        Some(n) => match f {
             Facilities::Zero => Facilities::One(n),
             Facilities::One(a) => Facilities::Two(a, n),
             Facilities::Two(a, b) => Facilities::Three(a, b, n),
@@ -46,20 +38,20 @@ pub(crate) fn with_facility(f: Facilities, new: Facility) -> Facilities
     }
 }
 
-pub(crate) fn first_place(p: Place, i: usize, n: usize) -> Place
+pub(crate) fn first_place(p: Option<Place>, i: usize, n: usize) -> Option<Place>
     ensures { result ≡ note_place p i n }
 {
     match p {
-        Place::Absent => Place::At(i, n),
-        Place::At(_, _) => p,
+        None => Some(Place { at: i, size: n }),
+        Some(_) => p,
     }
 }
 
-pub(crate) fn cause_seen(c: Seen) -> Cause
+pub(crate) fn cause_seen(c: Option<Option<u8>>) -> Option<u8>
     ensures { result ≡ cause_seen c }
 {
     match c {
-        Seen::Unseen => Cause::Absent,
-        Seen::First(v) => v,
+        None => None,
+        Some(v) => v,
     }
 }

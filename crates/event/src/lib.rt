@@ -4,7 +4,7 @@
 use facility_rules::What;
 use rights::Rights;
 use sent::side::Side;
-use services::{Answers, Requests};
+use services::{ByService, Given, Request};
 
 // An event without its element.
 #[derive(Clone, Copy)]
@@ -12,13 +12,13 @@ pub enum Event {
     Setup {
         reference: u16,
         rights: Rights,
-        requests: Requests,
+        requests: ByService<Request>,
     },
     Alerting {
-        answers: Answers,
+        answers: ByService<Given>,
     },
     Connect {
-        answers: Answers,
+        answers: ByService<Given>,
     },
     Information {
         side: Side,
@@ -31,7 +31,7 @@ pub enum Event {
     Disconnect {
         side: Side,
         cause: u8,
-        answers: Answers,
+        answers: ByService<Given>,
     },
     ReleaseComplete {
         side: Side,

@@ -1,6 +1,6 @@
 -- A component: the number of its service, and the range of its invoke number.
 use Rattle.std.specs.Prelude.{ℕ, Bool, ltb}
-use Rattle.facility.specs.declared.Service.{Service}
+use Rattle.rights.specs.declared.Service.{Service}
 use Rattle.facility.specs.declared.Component.{Component}
 
 abbrev pub service_octet : Service → ℕ

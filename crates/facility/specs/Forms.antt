@@ -1,12 +1,10 @@
 -- The body of a Facility element, as it is read: the octets of 7.1 and Annex B, and no others.
+use Rattle.std.specs.Prelude.{Option, Some, None}
 use Rattle.std.specs.Prelude.{ℕ, suc, List, [], ◌∷◌, Bool, true, false, cond, ◌&&◌, length, get_or, ltb, eqb}
-use Rattle.facility.specs.declared.Service.{Service}
+use Rattle.rights.specs.declared.Service.{Service}
 use Rattle.facility.specs.declared.Wish.{Wish}
 use Rattle.facility.specs.declared.Refusal.{Refusal}
 use Rattle.facility.specs.declared.Component.{Component}
-use Rattle.facility.specs.declared.Facility.{Facility}
-use Rattle.facility.specs.declared.forms.Named.{Named}
-use Rattle.facility.specs.declared.forms.Told.{Told}
 
 -- an octet of a form: the one given, or one that is to be filled in
 pub data Slot : Type 0 where
@@ -45,48 +43,48 @@ unfoldable pub spells : List Slot → List ℕ → Bool
 spells f b = cond (eqb (length b) (size f)) (stand true 0 f b) false
 
 -- services 1 to 3
-unfoldable pub service_of : ℕ → Named
+unfoldable pub service_of : ℕ → Option Service
 service_of x =
-    cond (eqb x 1) (Named.Service Service.One)
-    (cond (eqb x 2) (Named.Service Service.Two)
-    (cond (eqb x 3) (Named.Service Service.Three) Named.Nothing))
+    cond (eqb x 1) (Some Service.One)
+    (cond (eqb x 2) (Some Service.Two)
+    (cond (eqb x 3) (Some Service.Three) None))
 
 -- any octet but 00 reads as TRUE, which is preferred
 unfoldable pub wish_of : ℕ → Wish
 wish_of x = cond (eqb x 0) Wish.Required Wish.Preferred
 
 -- error 1 is rejectedByNetwork, error 2 rejectedByUser
-unfoldable pub refusal_of : ℕ → Told
+unfoldable pub refusal_of : ℕ → Option Refusal
 refusal_of x =
-    cond (eqb x 1) (Told.Refusal Refusal.ByNetwork)
-    (cond (eqb x 2) (Told.Refusal Refusal.ByUser) Told.Nothing)
+    cond (eqb x 1) (Some Refusal.ByNetwork)
+    (cond (eqb x 2) (Some Refusal.ByUser) None)
 
 -- what the blanks of each form say
-abbrev pub invoke_says : ℕ → Named → Wish → Facility
-invoke_says id Named.Nothing w = Facility.Absent
-invoke_says id (Named.Service s) w = Facility.Says (Component.Invoke id s w)
+abbrev pub invoke_says : ℕ → Option Service → Wish → Option Component
+invoke_says id None w = None
+invoke_says id (Some s) w = Some (Component.Invoke id s w)
 
-abbrev pub error_says : ℕ → Told → Facility
-error_says id Told.Nothing = Facility.Absent
-error_says id (Told.Refusal e) = Facility.Says (Component.Rejected id e)
+abbrev pub error_says : ℕ → Option Refusal → Option Component
+error_says id None = None
+error_says id (Some e) = Some (Component.Rejected id e)
 
 -- a body of the form, with an invoke number 0 to 127 in its sixth octet, says this; another is absent
-unfoldable pub read_as : List Slot → List ℕ → Facility → Facility
-read_as f b says = cond (spells f b) (cond (ltb (get_or b 5 0) 128) says Facility.Absent) Facility.Absent
+unfoldable pub read_as : List Slot → List ℕ → Option Component → Option Component
+read_as f b says = cond (spells f b) (cond (ltb (get_or b 5 0) 128) says None) None
 
-unfoldable pub invoke_of : List ℕ → Facility
+unfoldable pub invoke_of : List ℕ → Option Component
 invoke_of b = read_as invoke_form b (invoke_says (get_or b 5 0) (service_of (get_or b 13 0)) (wish_of (get_or b 16 0)))
 
-unfoldable pub result_of : List ℕ → Facility
-result_of b = read_as result_form b (Facility.Says (Component.Accepted (get_or b 5 0)))
+unfoldable pub result_of : List ℕ → Option Component
+result_of b = read_as result_form b (Some (Component.Accepted (get_or b 5 0)))
 
-unfoldable pub error_of : List ℕ → Facility
+unfoldable pub error_of : List ℕ → Option Component
 error_of b = read_as error_form b (error_says (get_or b 5 0) (refusal_of (get_or b 8 0)))
 
-abbrev pub or : Facility → Facility → Facility
-or Facility.Absent f = f
-or (Facility.Says c) f = Facility.Says c
+abbrev pub or : Option Component → Option Component → Option Component
+or None f = f
+or (Some c) f = Some c
 
 -- what a body says; "an unreadable Facility element, or a reject component counts as absent"
-unfoldable pub facility_of : List ℕ → Facility
+unfoldable pub facility_of : List ℕ → Option Component
 facility_of b = or (invoke_of b) (or (result_of b) (error_of b))

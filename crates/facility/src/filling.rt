@@ -4,8 +4,9 @@ ghost use Rattle.memory.specs.Room.{Written};
 ghost use Rattle.facility.specs.Facility.{service_octet, component_fits};
 ghost use Rattle.facility.specs.Filling.{wish_octet, refusal_octet, facility_octets};
 
-use crate::{Component, Refusal, Service, Wish, component_fits};
-use memory::{Bar, Wrote, write_octets};
+use crate::{Component, Refusal, Wish, component_fits};
+use memory::{Bar, write_octets};
+use rights::Service;
 
 fn service_octet(s: Service) -> u8
     ensures { result ≡ service_octet s }
@@ -49,11 +50,11 @@ fn invoke_octets(id: u8, s: Service, w: Wish) -> [u8; 19]
 
 // Writes the whole element.
 #[tactic(auto, unfolding(crate::specs::Filling::filled))]
-pub fn write_facility(buf: &mut [u8], at: usize, c: Component) -> Wrote
+pub fn write_facility(buf: &mut [u8], at: usize, c: Component) -> Result<usize, Bar>
     ensures { Written (component_fits c) at (facility_octets c) buf.old buf.new result }
 {
     if !component_fits(c) {
-        return Wrote::Refused(Bar::Range);
+        return Err(Bar::Range);
     }
     match c {
         Component::Invoke(id, s, w) => {

@@ -1,32 +1,19 @@
-// The body of a Facility element: one component, read by the form that it has.
+// The body of a Option<Component> element: one component, read by the form that it has.
 ghost use Rattle.std.specs.Prelude.{◌≡◌, cond, false, map, ◌≤◌, length, get_or, ltb};
 ghost use Rattle.facility.specs.Forms.{slot_of, spells, service_of, wish_of, refusal_of, invoke_says, error_says, invoke_of, result_of, error_of, facility_of};
 
-use crate::{Component, Facility, Refusal, Service, Wish};
-
-// The service that an octet names, if it names one.
-#[derive(Clone, Copy)]
-enum Named {
-    Nothing,
-    Service(Service),
-}
-
-// The error that an octet names, if it names one.
-#[derive(Clone, Copy)]
-enum Told {
-    Nothing,
-    Refusal(Refusal),
-}
+use crate::{Component, Refusal, Wish};
+use rights::Service;
 
 #[tactic(auto, unfolding(crate::specs::Forms::service_of))]
-fn service_in(x: u8) -> Named
+fn service_in(x: u8) -> Option<Service>
     ensures { result ≡ service_of x }
 {
     match x {
-        1 => Named::Service(Service::One),
-        2 => Named::Service(Service::Two),
-        3 => Named::Service(Service::Three),
-        _ => Named::Nothing,
+        1 => Some(Service::One),
+        2 => Some(Service::Two),
+        3 => Some(Service::Three),
+        _ => None,
     }
 }
 
@@ -42,33 +29,33 @@ fn wish_in(x: u8) -> Wish
 }
 
 #[tactic(auto, unfolding(crate::specs::Forms::refusal_of))]
-fn refusal_in(x: u8) -> Told
+fn refusal_in(x: u8) -> Option<Refusal>
     ensures { result ≡ refusal_of x }
 {
     match x {
-        1 => Told::Refusal(Refusal::ByNetwork),
-        2 => Told::Refusal(Refusal::ByUser),
-        _ => Told::Nothing,
+        1 => Some(Refusal::ByNetwork),
+        2 => Some(Refusal::ByUser),
+        _ => None,
     }
 }
 
 // What the filled-in octets of a request say.
-fn asked(id: u8, service: u8, preferred: u8) -> Facility
+fn asked(id: u8, service: u8, preferred: u8) -> Option<Component>
     ensures { result ≡ invoke_says id (service_of service) (wish_of preferred) }
 {
     match service_in(service) {
-        Named::Nothing => Facility::Absent,
-        Named::Service(s) => Facility::Says(Component::Invoke(id, s, wish_in(preferred))),
+        None => None,
+        Some(s) => Some(Component::Invoke(id, s, wish_in(preferred))),
     }
 }
 
 // What the filled-in octets of a rejection say.
-fn rejected(id: u8, error: u8) -> Facility
+fn rejected(id: u8, error: u8) -> Option<Component>
     ensures { result ≡ error_says id (refusal_of error) }
 {
     match refusal_in(error) {
-        Told::Nothing => Facility::Absent,
-        Told::Refusal(e) => Facility::Says(Component::Rejected(id, e)),
+        None => None,
+        Some(e) => Some(Component::Rejected(id, e)),
     }
 }
 
@@ -98,7 +85,7 @@ fn numbered(b: &[u8], form: &[u8]) -> bool
 }
 
 #[tactic(auto, unfolding(crate::specs::Forms::invoke_of, crate::specs::Forms::size))]
-fn invoke_in(b: &[u8]) -> Facility
+fn invoke_in(b: &[u8]) -> Option<Component>
     ensures { result ≡ invoke_of b.now }
 {
     if numbered(
@@ -107,42 +94,42 @@ fn invoke_in(b: &[u8]) -> Facility
     ) {
         asked(b[5], b[13], b[16])
     } else {
-        Facility::Absent
+        None
     }
 }
 
 #[tactic(auto, unfolding(crate::specs::Forms::result_of, crate::specs::Forms::size))]
-fn result_in(b: &[u8]) -> Facility
+fn result_in(b: &[u8]) -> Option<Component>
     ensures { result ≡ result_of b.now }
 {
     if numbered(b, b"\x91\xA2\x03\x02\x01\x00") {
-        Facility::Says(Component::Accepted(b[5]))
+        Some(Component::Accepted(b[5]))
     } else {
-        Facility::Absent
+        None
     }
 }
 
 #[tactic(auto, unfolding(crate::specs::Forms::error_of, crate::specs::Forms::size))]
-fn error_in(b: &[u8]) -> Facility
+fn error_in(b: &[u8]) -> Option<Component>
     ensures { result ≡ error_of b.now }
 {
     if numbered(b, b"\x91\xA3\x06\x02\x01\x00\x02\x01\x00") {
         rejected(b[5], b[8])
     } else {
-        Facility::Absent
+        None
     }
 }
 
-// What the body of a Facility element says, by the form that it has.
+// What the body of a Option<Component> element says, by the form that it has.
 #[tactic(auto, unfolding(crate::specs::Forms::facility_of))]
-pub fn facility_in(body: &[u8]) -> Facility
+pub fn facility_in(body: &[u8]) -> Option<Component>
     ensures { result ≡ facility_of body.now }
 {
     match invoke_in(body) {
-        Facility::Says(c) => Facility::Says(c),
-        Facility::Absent => match result_in(body) {
-            Facility::Says(c) => Facility::Says(c),
-            Facility::Absent => error_in(body),
+        Some(c) => Some(c),
+        None => match result_in(body) {
+            Some(c) => Some(c),
+            None => error_in(body),
         },
     }
 }

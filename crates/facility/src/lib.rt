@@ -1,19 +1,14 @@
-// What a Facility element says: one component, and whether its invoke number is in range. `forms` reads its body,
+// What a Option<Component> element says: one component, and whether its invoke number is in range. `forms` reads its body,
 // `filling` writes the element.
 #![tactic(auto)]
 
 ghost use Rattle.std.specs.Prelude.{◌≡◌};
 ghost use Rattle.facility.specs.Facility.{component_fits};
 
+use rights::Service;
+
 pub mod filling;
 pub mod forms;
-
-#[derive(Clone, Copy)]
-pub enum Service {
-    One,
-    Two,
-    Three,
-}
 
 #[derive(Clone, Copy)]
 pub enum Wish {
@@ -33,12 +28,6 @@ pub enum Component {
     Invoke(u8, Service, Wish),
     Accepted(u8),
     Rejected(u8, Refusal),
-}
-
-#[derive(Clone, Copy)]
-pub enum Facility {
-    Absent,
-    Says(Component),
 }
 
 // Whether the invoke number is in range.

@@ -1,12 +1,12 @@
 -- FACILITY about service 3: what it says, and what the asker and the other user are told.
+use Rattle.std.specs.Prelude.{Option, None}
+use Rattle.sent.specs.declared.Message.{Message}
 use Rattle.std.specs.Prelude.{Bool, true, false}
 use Rattle.services.specs.declared.Said.{Said}
 use Rattle.answer.specs.declared.Answer.{Answer}
 use Rattle.facility_rules.specs.declared.What.{What}
 use Rattle.answer.specs.Answer.{taken_of}
-use Rattle.cause.specs.declared.Cause.{Cause}
 use Rattle.message_types.specs.declared.Kind.{Kind}
-use Rattle.sent.specs.declared.Sent.{Sent}
 use Rattle.sent.specs.Message.{saying_of, only_if_of}
 
 -- what is passed to the other user
@@ -31,13 +31,13 @@ not_granted_of Answer.OutOfRange = false
 not_granted_of Answer.Unsound = false
 
 -- FACILITY that says one thing of service 3
-unfoldable pub about_three_of : Said → Sent
-about_three_of s = saying_of Kind.Facility Cause.Absent (record { one = Said.Nothing; two = Said.Nothing; three = s }) false
+unfoldable pub about_three_of : Said → Option Message
+about_three_of s = saying_of Kind.Facility None (record { one = Said.Nothing; two = Said.Nothing; three = s }) false
 
 -- "16 sends the asker FACILITY with rejectedByNetwork"
-abbrev pub to_asker_of : Answer → Sent
+abbrev pub to_asker_of : Answer → Option Message
 to_asker_of verdict = only_if_of (not_granted_of verdict) (about_three_of Said.ByNetwork)
 
 -- "Request, accept or reject for service 3, passed to the other user when taken"
-abbrev pub to_other_of : Answer → What → Sent
+abbrev pub to_other_of : Answer → What → Option Message
 to_other_of verdict what = only_if_of (taken_of verdict) (about_three_of (facility_said_of what))

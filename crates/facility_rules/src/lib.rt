@@ -6,19 +6,13 @@ ghost use Rattle.std.specs.Prelude.{◌≡◌};
 ghost use Rattle.facility_rules.specs.Asking.{nobody_asks, asks_of, with_ask_of, may_ask_of, to_answer_of, verdict_of, facility_asking_of, facility_three_of, facility_meters_of};
 
 use answer::Answer;
-use flow_meter::call_meters::{Meters, grants};
+use flow_meter::Meter;
+use flow_meter::call_meters::grants;
 use rights::{Rights, Service, has};
-use sent::side::{Side, peer};
+use sent::side::{BySide, Side, peer};
 use services::Standing;
 
 pub mod messages;
-
-// Who has a FACILITY request for service 3 open.
-#[derive(Clone, Copy)]
-pub struct Asking {
-    pub calling: bool,
-    pub called: bool,
-}
 
 // What a FACILITY message says of service 3.
 #[derive(Clone, Copy)]
@@ -30,17 +24,17 @@ pub enum What {
 }
 
 #[tactic(auto, unfolding(crate::specs::Asking::nobody_asks))]
-pub fn nobody_asks() -> Asking
+pub fn nobody_asks() -> BySide<bool>
     ensures { result ≡ nobody_asks }
 {
-    Asking {
+    BySide {
         calling: false,
         called: false,
     }
 }
 
 // Whether a side's own request is open.
-fn asks(a: Asking, side: Side) -> bool
+fn asks(a: BySide<bool>, side: Side) -> bool
     ensures { result ≡ asks_of a side }
 {
     match side {
@@ -49,7 +43,7 @@ fn asks(a: Asking, side: Side) -> bool
     }
 }
 
-fn with_ask(mut a: Asking, side: Side, b: bool) -> Asking
+fn with_ask(mut a: BySide<bool>, side: Side, b: bool) -> BySide<bool>
     ensures { result ≡ with_ask_of a side b }
 {
     match side {
@@ -82,7 +76,7 @@ fn to_answer(shut: bool) -> Answer
 
 // `force` says whether service 3 is in force. A request is answered 16, then 15.
 #[tactic(auto, unfolding(crate::specs::Asking::to_answer_of, crate::specs::Asking::to_request_of))]
-pub fn verdict(r: Rights, a: Asking, force: bool, side: Side, what: What) -> Answer
+pub fn verdict(r: Rights, a: BySide<bool>, force: bool, side: Side, what: What) -> Answer
     ensures { result ≡ verdict_of r a force side what }
 {
     match what {
@@ -99,7 +93,7 @@ pub fn verdict(r: Rights, a: Asking, force: bool, side: Side, what: What) -> Ans
 }
 
 // Accept closes both requests, reject the one that it answers.
-pub fn facility_asking(a: Asking, side: Side, what: What) -> Asking
+pub fn facility_asking(a: BySide<bool>, side: Side, what: What) -> BySide<bool>
     ensures { result ≡ facility_asking_of a side what }
 {
     match what {
@@ -122,7 +116,7 @@ pub fn facility_three(s: Standing, what: What) -> Standing
 }
 
 // Accept in FACILITY puts service 3 in force as an acceptance before Active does.
-pub fn facility_meters(m: Meters, burst: u16, what: What) -> Meters
+pub fn facility_meters(m: BySide<Meter>, burst: u16, what: What) -> BySide<Meter>
     ensures { result ≡ facility_meters_of m burst what }
 {
     match what {

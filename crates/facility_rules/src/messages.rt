@@ -4,10 +4,9 @@ ghost use Rattle.facility_rules.specs.Messages.{facility_said_of, about_three_of
 
 use crate::What;
 use answer::{Answer, taken};
-use cause::Cause;
 use message_types::Kind;
-use sent::{Sent, saying};
-use services::{Facilities, Said};
+use sent::{Message, saying};
+use services::{ByService, Said};
 
 fn facility_said(what: What) -> Said
     ensures { result ≡ facility_said_of what }
@@ -22,13 +21,13 @@ fn facility_said(what: What) -> Said
 
 // FACILITY about service 3.
 #[tactic(auto, unfolding(crate::specs::Messages::about_three_of))]
-fn about_three(s: Said) -> Sent
+fn about_three(s: Said) -> Option<Message>
     ensures { result ≡ about_three_of s }
 {
     saying(
         Kind::Facility,
-        Cause::Absent,
-        Facilities {
+        None,
+        ByService {
             one: Said::Nothing,
             two: Said::Nothing,
             three: s,
@@ -39,23 +38,23 @@ fn about_three(s: Said) -> Sent
 
 // The asker is told of 16.
 #[tactic(auto, unfolding(sent::specs::Message::only_if_of))]
-pub fn to_asker(verdict: Answer) -> Sent
+pub fn to_asker(verdict: Answer) -> Option<Message>
     ensures { result ≡ to_asker_of verdict }
 {
     match verdict {
         Answer::NotGranted => about_three(Said::ByNetwork),
-        _ => Sent::Absent,
+        _ => None,
     }
 }
 
 // What is taken goes on to the other user.
 #[tactic(auto, unfolding(sent::specs::Message::only_if_of))]
-pub fn to_other(verdict: Answer, what: What) -> Sent
+pub fn to_other(verdict: Answer, what: What) -> Option<Message>
     ensures { result ≡ to_other_of verdict what }
 {
     if taken(verdict) {
         about_three(facility_said(what))
     } else {
-        Sent::Absent
+        None
     }
 }

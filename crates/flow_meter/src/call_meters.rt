@@ -5,28 +5,21 @@ ghost use Rattle.flow_meter.specs.CallMeters.{empty_meters, meter_of, spent_of, 
 use crate::passage::{Passage, after};
 use crate::{Meter, empty, granted, ticked};
 use rights::Rights;
-use sent::side::Side;
-use sent::{Level, Sent, congestion, only_if};
-
-// The meter of what each side sends.
-#[derive(Clone, Copy)]
-pub struct Meters {
-    pub calling: Meter,
-    pub called: Meter,
-}
+use sent::side::{BySide, Side};
+use sent::{Level, Message, congestion, only_if};
 
 #[tactic(auto, unfolding(crate::specs::CallMeters::empty_meters))]
-pub fn empty_meters() -> Meters
+pub fn empty_meters() -> BySide<Meter>
     ensures { result ≡ empty_meters }
 {
-    Meters {
+    BySide {
         calling: empty(),
         called: empty(),
     }
 }
 
 // The meter of what a side sends.
-pub fn meter_of(m: Meters, side: Side) -> Meter
+pub fn meter_of(m: BySide<Meter>, side: Side) -> Meter
     ensures { result ≡ meter_of m side }
 {
     match side {
@@ -36,7 +29,7 @@ pub fn meter_of(m: Meters, side: Side) -> Meter
 }
 
 // What a message's passage makes of the meter of its side.
-pub fn spent(mut m: Meters, side: Side, p: Passage) -> Meters
+pub fn spent(mut m: BySide<Meter>, side: Side, p: Passage) -> BySide<Meter>
     ensures { result ≡ spent_of m side p }
 {
     match side {
@@ -53,7 +46,7 @@ pub fn spent(mut m: Meters, side: Side, p: Passage) -> Meters
 
 // Service 3 comes into force: each direction has the whole burst.
 #[tactic(auto, unfolding(crate::specs::CallMeters::grants_of))]
-pub fn grants(mut m: Meters, burst: u16) -> Meters
+pub fn grants(mut m: BySide<Meter>, burst: u16) -> BySide<Meter>
     ensures { result ≡ grants_of m burst }
 {
     m.calling = granted(m.calling, burst);
@@ -63,7 +56,7 @@ pub fn grants(mut m: Meters, burst: u16) -> Meters
 
 // `runs` says whether service 3 is in force in Active: otherwise a tick does nothing.
 #[tactic(auto, unfolding(crate::specs::CallMeters::refills_of, crate::specs::CallMeters::ticked_meters_of))]
-pub fn refills(mut m: Meters, r: Rights, runs: bool) -> Meters
+pub fn refills(mut m: BySide<Meter>, r: Rights, runs: bool) -> BySide<Meter>
     ensures { result ≡ refills_of m r runs }
 {
     if runs {
@@ -77,7 +70,7 @@ pub fn refills(mut m: Meters, r: Rights, runs: bool) -> Meters
 
 // The sender of a direction whose mark is set is told that it is ready.
 #[tactic(auto, unfolding(crate::specs::CallMeters::ready_of))]
-pub fn ready(m: Meter, runs: bool) -> Sent
+pub fn ready(m: Meter, runs: bool) -> Option<Message>
     ensures { result ≡ ready_of m runs }
 {
     only_if(runs & m.mark, congestion(Level::Ready))

@@ -5,8 +5,7 @@ ghost use Rattle.information_rules.specs.Messages.{passage_answer_of, carrier_of
 use answer::Answer;
 use flow_meter::passage::Passage;
 use rights::Service;
-use sent::dispatch::Carrier;
-use sent::{Level, Sent, congestion, informs};
+use sent::{Level, Message, congestion, informs};
 
 pub fn passage_answer(p: Passage) -> Answer
     ensures { result ≡ passage_answer_of p }
@@ -21,34 +20,34 @@ pub fn passage_answer(p: Passage) -> Answer
 }
 
 // The service that pays for a message carries it.
-pub fn carrier_of(p: Passage) -> Carrier
+pub fn carrier_of(p: Passage) -> Option<Service>
     ensures { result ≡ carrier_of p }
 {
     match p {
-        Passage::Two(_) => Carrier::By(Service::Two),
-        Passage::Three(_) => Carrier::By(Service::Three),
-        _ => Carrier::Nobody,
+        Passage::Two(_) => Some(Service::Two),
+        Passage::Three(_) => Some(Service::Three),
+        _ => None,
     }
 }
 
 // The sender is told once that there is no credit.
 #[tactic(auto, unfolding(sent::specs::Message::only_if_of))]
-pub fn to_sender(p: Passage) -> Sent
+pub fn to_sender(p: Passage) -> Option<Message>
     ensures { result ≡ to_sender_of p }
 {
     match p {
         Passage::Marks(_) => congestion(Level::NotReady),
-        _ => Sent::Absent,
+        _ => None,
     }
 }
 
 // A message that passes goes on to the other side.
 #[tactic(auto, unfolding(sent::specs::Message::only_if_of))]
-pub fn to_receiver(p: Passage, more: bool) -> Sent
+pub fn to_receiver(p: Passage, more: bool) -> Option<Message>
     ensures { result ≡ to_receiver_of p more }
 {
     match p {
         Passage::Two(_) | Passage::Three(_) => informs(more),
-        _ => Sent::Absent,
+        _ => None,
     }
 }

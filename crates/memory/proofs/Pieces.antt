@@ -1,4 +1,6 @@
 -- One piece after another.
+use Rattle.std.specs.Prelude.{Result}
+use Rattle.memory.specs.declared.Bar.{Bar}
 use Prim.Native.Nat.{ℕ, ◌+◌, ◌≤◌}
 use mathlib.Core.List.{List, [], ◌++◌, append_assoc}
 use mathlib.Core.Bool.{Bool, true}
@@ -8,7 +10,6 @@ use native.Mathlib.Nat.{add_assoc}
 use borrow.Author.Tests.{le-leb}
 use lib.ListN.{length, take, drop, length-append, length-drop}
 use lib.Seq.{length-take-le, take_at, drop-append-add, drop-drop, paste-zero}
-use Rattle.memory.specs.declared.Wrote.{Wrote}
 use Rattle.memory.specs.Room.{placed, wrote_of, left_of, Written}
 use Rattle.memory.specs.Putting.{end_of, Put}
 
@@ -59,7 +60,7 @@ pub put_length : {at r : ℕ} {p l l' : List ℕ} → at + length p ≤ length l
 put_length {at} {r} {p} {l} h a = rw a.octets (length_placed at p l h)
 
 -- a piece that is in range and fits is put
-pub settles : {fits : Bool} {at r : ℕ} {p l l' : List ℕ} {w : Wrote} → fits ≡ true → at + length p ≤ length l → Written fits at p l l' w → r ≡ end_of w → Put at p l l' r
+pub settles : {fits : Bool} {at r : ℕ} {p l l' : List ℕ} {w : Result ℕ Bar} → fits ≡ true → at + length p ≤ length l → Written fits at p l l' w → r ≡ end_of w → Put at p l l' r
 unfolding wrote_of left_of
 settles {at = at} {p = p} {l = l} h k a e =
     let t = le-leb (at + length p) (length l) k in

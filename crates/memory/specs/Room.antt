@@ -1,25 +1,25 @@
 -- What a lent buffer holds after something was written into it, or refused.
+use Rattle.std.specs.Prelude.{Result, Ok, Err}
 use Rattle.std.specs.Prelude.{ℕ, ◌+◌, ◌-◌, List, [], ◌++◌, Bool, cond, ◌≡◌, length, take, drop, leb}
 use Rattle.memory.specs.declared.Bar.{Bar}
-use Rattle.memory.specs.declared.Wrote.{Wrote}
 
 -- a buffer with a piece in it from a place on: "a written message leaves the octets after it unchanged"
 unfoldable pub placed : ℕ → List ℕ → List ℕ → List ℕ
 placed at p l = take at l ++ p ++ drop (at + length p) l
 
 -- "Writing gives 7 before 6": a field out of range, then a buffer that is too short
-unfoldable pub wrote_of : Bool → ℕ → List ℕ → List ℕ → Wrote
+unfoldable pub wrote_of : Bool → ℕ → List ℕ → List ℕ → Result ℕ Bar
 wrote_of fits at p l =
     cond fits
-    (cond (leb (at + length p) (length l)) (Wrote.To (at + length p)) (Wrote.Refused Bar.Room))
-    (Wrote.Refused Bar.Range)
+    (cond (leb (at + length p) (length l)) (Ok (at + length p)) (Err Bar.Room))
+    (Err Bar.Range)
 
 -- "Numbers 1 to 7 write nothing in any lent buffer"
 unfoldable pub left_of : Bool → ℕ → List ℕ → List ℕ → List ℕ
 left_of fits at p l = cond fits (cond (leb (at + length p) (length l)) (placed at p l) l) l
 
 -- the answer r, and the buffer l' that is left, where a piece p was to go into l at a place
-pub record Written (fits : Bool) (at : ℕ) (p l l' : List ℕ) (r : Wrote) : Type 0 where
+pub record Written (fits : Bool) (at : ℕ) (p l l' : List ℕ) (r : Result ℕ Bar) : Type 0 where
   pub answer : r ≡ wrote_of fits at p l
   pub buffer : l' ≡ left_of fits at p l
 

@@ -15,20 +15,13 @@ pub enum Bar {
     Range,
 }
 
-// Where what was written ends, or why nothing was.
-#[derive(Clone, Copy)]
-pub enum Wrote {
-    To(usize),
-    Refused(Bar),
-}
-
 // Where the next piece starts; 0 where a piece was refused.
-pub fn end_of(w: Wrote) -> usize
+pub fn end_of(w: Result<usize, Bar>) -> usize
     ensures { result ≡ end_of w }
 {
     match w {
-        Wrote::To(n) => n,
-        Wrote::Refused(_) => 0,
+        Ok(n) => n,
+        Err(_) => 0,
     }
 }
 
@@ -47,16 +40,16 @@ fn put(buf: &mut [u8], at: usize, piece: &[u8]) -> usize
 }
 
 // Puts a piece into the buffer from a place on; where it does not fit, nothing.
-pub fn write_octets(buf: &mut [u8], at: usize, piece: &[u8]) -> Wrote
+pub fn write_octets(buf: &mut [u8], at: usize, piece: &[u8]) -> Result<usize, Bar>
     ensures { Written true at piece.now buf.old buf.new result }
 {
     if at > buf.len() {
-        return Wrote::Refused(Bar::Room);
+        return Err(Bar::Room);
     }
     if buf.len() - at < piece.len() {
-        return Wrote::Refused(Bar::Room);
+        return Err(Bar::Room);
     }
-    Wrote::To(put(buf, at, piece))
+    Ok(put(buf, at, piece))
 }
 
 // Moves the octets of a buffer from a place to another to its front, and answers how many they are: what was not used

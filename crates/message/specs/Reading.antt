@@ -1,12 +1,12 @@
 -- What a message says.
+use Rattle.std.specs.Prelude.{Option, Some, None, Result, Err}
+use Rattle.message_fields.specs.declared.Reading.{Reading}
 use Rattle.std.specs.Prelude.{ℕ, ◌+◌, ◌*◌, ◌%◌, List, cond, length, get_or, drop, ltb, leb, eqb}
 use Rattle.message_types.specs.declared.Kind.{Kind}
-use Rattle.message_types.specs.declared.Typed.{Typed}
 use Rattle.message_fields.specs.declared.Width.{Width}
 use Rattle.message_fields.specs.declared.Header.{Header}
 use Rattle.message_types.specs.Kind.{kind_of}
 use Rattle.message_fields.specs.declared.Fault.{Fault}
-use Rattle.message_fields.specs.declared.Read.{Read}
 use Rattle.elements.specs.Elements.{elements}
 use Rattle.elements.specs.Meaning.{taken_from}
 use Rattle.message_fields.specs.Width.{width_of}
@@ -25,24 +25,24 @@ header_of w m k =
       kind = k;
     }
 
-abbrev pub typed_of : Width → List ℕ → Typed → Read
-typed_of w m Typed.Unknown = Read.Refused Fault.Kind
-typed_of w m (Typed.Known k) = taken_from (header_of w m k) (elements (width_of w + 3) 0 (drop (width_of w + 3) m))
+abbrev pub typed_of : Width → List ℕ → Option Kind → Result Reading Fault
+typed_of w m None = Err Fault.Kind
+typed_of w m (Some k) = taken_from (header_of w m k) (elements (width_of w + 3) 0 (drop (width_of w + 3) m))
 
 -- the reference, the type, the elements
-unfoldable pub headed_of : Width → List ℕ → Read
+unfoldable pub headed_of : Width → List ℕ → Result Reading Fault
 headed_of w m =
-    cond (ltb (length m) (width_of w + 3)) (Read.Refused Fault.Short)
+    cond (ltb (length m) (width_of w + 3)) (Err Fault.Short)
     (typed_of w m (kind_of (get_or m (width_of w + 2) 0)))
 
 -- "A message is 08, the reference length (1 or 2), the reference, the type, the elements."
 -- "Reading gives 2 first, then the first fault from left to right."
-unfoldable pub read_of : List ℕ → Read
+unfoldable pub read_of : List ℕ → Result Reading Fault
 read_of m =
-    cond (ltb 260 (length m)) (Read.Refused Fault.TooLong)
-    (cond (ltb (length m) 1) (Read.Refused Fault.Short)
+    cond (ltb 260 (length m)) (Err Fault.TooLong)
+    (cond (ltb (length m) 1) (Err Fault.Short)
     (cond (eqb (get_or m 0 0) 8)
-    (cond (ltb (length m) 2) (Read.Refused Fault.Short)
+    (cond (ltb (length m) 2) (Err Fault.Short)
     (cond (eqb (get_or m 1 0) 1) (headed_of Width.One m)
-    (cond (eqb (get_or m 1 0) 2) (headed_of Width.Two m) (Read.Refused Fault.Reference))))
-    (Read.Refused Fault.Foreign)))
+    (cond (eqb (get_or m 1 0) 2) (headed_of Width.Two m) (Err Fault.Reference))))
+    (Err Fault.Foreign)))

@@ -6,8 +6,8 @@ ghost use Rattle.message.specs.Reading.{reference_of, headed_of, read_of};
 
 use elements::scan;
 use memory::octet::wide16;
-use message_fields::{Fault, Header, Read, Width, width_size};
-use message_types::{Typed, kind_in};
+use message_fields::{Fault, Header, Reading, Width, width_size};
+use message_types::{Kind, kind_in};
 
 pub mod parts;
 
@@ -22,16 +22,16 @@ fn reference(w: Width, a: u8, b: u8) -> u16
 }
 
 // The rest of the header, and the elements, where the reference has this many octets.
-fn headed(m: &[u8], w: Width) -> Read
+fn headed(m: &[u8], w: Width) -> Result<Reading, Fault>
     ensures { result ≡ headed_of w m.now }
 {
     let n = width_size(w);
     if m.len() < n + 3 {
-        return Read::Refused(Fault::Short);
+        return Err(Fault::Short);
     }
     match kind_in(m[n + 2]) {
-        Typed::Unknown => Read::Refused(Fault::Kind),
-        Typed::Known(k) => {
+        None => Err(Fault::Kind),
+        Some(k) => {
             let h = Header {
                 width: w,
                 flag: m[2] >= 0x80,
@@ -44,25 +44,25 @@ fn headed(m: &[u8], w: Width) -> Read
 }
 
 #[tactic(auto, unfolding(crate::specs::Reading::read_of))]
-pub fn read_message(m: &[u8]) -> Read
+pub fn read_message(m: &[u8]) -> Result<Reading, Fault>
     ensures { result ≡ read_of m.now }
 {
     if m.len() > 260 {
-        return Read::Refused(Fault::TooLong);
+        return Err(Fault::TooLong);
     }
     if m.len() < 1 {
-        return Read::Refused(Fault::Short);
+        return Err(Fault::Short);
     }
     if m[0] != 8 {
-        return Read::Refused(Fault::Foreign);
+        return Err(Fault::Foreign);
     }
     if m.len() < 2 {
-        return Read::Refused(Fault::Short);
+        return Err(Fault::Short);
     }
     let n = m[1];
     match n {
         1 => headed(m, Width::One),
         2 => headed(m, Width::Two),
-        _ => Read::Refused(Fault::Reference),
+        _ => Err(Fault::Reference),
     }
 }

@@ -4,15 +4,15 @@ ghost use Rattle.message.specs.Parts.{part_of, user_user_of};
 
 use crate::read_message;
 use memory::stretch::stretch;
-use message_fields::{Place, Read};
+use message_fields::Place;
 
 // The octets of a message at a place; none where the place does not lie in it.
-pub fn part<'a>(m: &'a [u8], place: Place) -> &'a [u8]
+pub fn part<'a>(m: &'a [u8], place: Option<Place>) -> &'a [u8]
     ensures { result.now ≡ part_of m.now place }
 {
     match place {
-        Place::Absent => &m[0..0],
-        Place::At(p, n) => stretch(m, p, n),
+        None => &m[0..0],
+        Some(p) => stretch(m, p.at, p.size),
     }
 }
 
@@ -22,8 +22,8 @@ pub fn user_user<'a>(m: &'a [u8]) -> &'a [u8]
     ensures { result.now ≡ user_user_of m.now }
 {
     match read_message(m) {
-        Read::Refused(_) => &m[0..0],
-        Read::Taken(r) => {
+        Err(_) => &m[0..0],
+        Ok(r) => {
             let user = r.user;
             part(m, user)
         }

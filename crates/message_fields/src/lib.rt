@@ -5,7 +5,6 @@
 ghost use Rattle.std.specs.Prelude.{◌≡◌, ◌≤◌};
 ghost use Rattle.message_fields.specs.Width.{width_of};
 
-use cause::Cause;
 use facility::Component;
 use message_types::Kind;
 
@@ -56,22 +55,22 @@ pub struct Header {
 pub struct Message {
     pub header: Header,
     pub single: Single,
-    pub cause: Cause,
+    pub cause: Option<u8>,
     pub facility: Facilities,
 }
 
 // Where the user-user element stands in a message: its first octet, and how many octets it has.
 #[derive(Clone, Copy)]
-pub enum Place {
-    Absent,
-    At(usize, usize),
+pub struct Place {
+    pub at: usize,
+    pub size: usize,
 }
 
 // A message that was taken, and where its user-user element stands.
 #[derive(Clone, Copy)]
 pub struct Reading {
     pub message: Message,
-    pub user: Place,
+    pub user: Option<Place>,
 }
 
 // Why a message is refused: it ends too early, is too long, begins with another protocol's octet, or has a reference
@@ -83,10 +82,4 @@ pub enum Fault {
     Foreign,
     Reference,
     Kind,
-}
-
-#[derive(Clone, Copy)]
-pub enum Read {
-    Taken(Reading),
-    Refused(Fault),
 }

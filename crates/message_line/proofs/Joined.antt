@@ -1,11 +1,12 @@
 -- Pieces that were put one after another, as the columns spell them.
+use Rattle.std.specs.Prelude.{Result}
+use Rattle.memory.specs.declared.Bar.{Bar}
 use Prim.Native.Nat.{ℕ, ◌+◌, ◌≤◌}
 use mathlib.Core.List.{List, [], ◌∷◌, ◌++◌}
 use mathlib.Core.Bool.{true}
 use mathlib.Core.Path.{◌≡◌}
 use native.Mathlib.Omega.{arith}
 use lib.ListN.{length, set}
-use Rattle.memory.specs.declared.Wrote.{Wrote}
 use Rattle.memory.specs.Putting.{end_of}
 use Rattle.memory.specs.Room.{Written}
 use Rattle.text.specs.Decimal.{decimal_of}
@@ -27,13 +28,13 @@ taken_columns_lem h c s f e k p q t =
     spelled (numbered h c s f e) (omega arith) (two (omega arith) (two (omega arith) p q) t)
 
 -- a line that is laid out from the start of a buffer: the room after its first number
-pub room_left : {a : ℕ} {n l l₁ : List ℕ} {w : Wrote} → length l ≡ 202 → length n ≤ 20 → Written true 0 n l l₁ w → a ≡ end_of w → a + 181 ≤ length l₁
+pub room_left : {a : ℕ} {n l l₁ : List ℕ} {w : Result ℕ Bar} → length l ≡ 202 → length n ≤ 20 → Written true 0 n l l₁ w → a ≡ end_of w → a + 181 ≤ length l₁
 room_left {l = l} h k v e =
     let q = settled {most = 20} {at = 0} (omega arith) k v e in
     omega (arith, q.put.end, q.small, piece_length {l = l} (omega arith) q)
 
 -- and all of it
-pub laid_out : {a b : ℕ} {n c l l₁ l₂ : List ℕ} {w : Wrote} → length l ≡ 202 → length n ≤ 20 → Written true 0 n l l₁ w → a ≡ end_of w → Piece 181 a c l₁ l₂ b → Piece 202 0 (n ++ c ++ (10 ∷ [])) l (set l₂ b 10) (b + 1)
+pub laid_out : {a b : ℕ} {n c l l₁ l₂ : List ℕ} {w : Result ℕ Bar} → length l ≡ 202 → length n ≤ 20 → Written true 0 n l l₁ w → a ≡ end_of w → Piece 181 a c l₁ l₂ b → Piece 202 0 (n ++ c ++ (10 ∷ [])) l (set l₂ b 10) (b + 1)
 laid_out {l = l} {l₁ = l₁} h k v e p =
     let q = settled {most = 20} {at = 0} (omega arith) k v e in
     let f = piece_length {l = l} (omega arith) q in

@@ -1,11 +1,11 @@
 -- The columns of a line, `at number type flag ref cause single facility element`: those after the first.
+use Rattle.std.specs.Prelude.{Option, Some, None, Result, Ok, Err}
+use Rattle.message_fields.specs.declared.Fault.{Fault}
+use Rattle.message_fields.specs.declared.Place.{Place}
 use Rattle.std.specs.Prelude.{ℕ, List, [], ◌∷◌, ◌++◌, Bool, true, false}
-use Rattle.cause.specs.declared.Cause.{Cause}
 use Rattle.message_fields.specs.declared.Single.{Single}
 use Rattle.message_fields.specs.declared.Header.{Header}
-use Rattle.message_fields.specs.declared.Place.{Place}
 use Rattle.message_fields.specs.declared.Reading.{Reading}
-use Rattle.message_fields.specs.declared.Read.{Read}
 use Rattle.message_types.specs.Kind.{kind_octet}
 use Rattle.message_fields.specs.Numbers.{read_number}
 use Rattle.text.specs.Decimal.{decimal_of}
@@ -23,9 +23,9 @@ unfoldable pub head_columns : Header → List ℕ
 head_columns h = column (hex_of (kind_octet h.kind)) ++ column (flag_digit h.flag ∷ []) ++ column (decimal_of h.reference)
 
 -- cause or `-`
-abbrev pub cause_column : Cause → List ℕ
-cause_column Cause.Absent = dash
-cause_column (Cause.Value v) = decimal_of v
+abbrev pub cause_column : Option ℕ → List ℕ
+cause_column None = dash
+cause_column (Some v) = decimal_of v
 
 -- single octet `A0`, `B0`, `BF` or `-`
 abbrev pub single_column : Single → List ℕ
@@ -35,9 +35,9 @@ single_column Single.Ready = hex_of 0xB0
 single_column Single.NotReady = hex_of 0xBF
 
 -- the user-user element as `offset+length` within its message, or `-`
-abbrev pub element_column : Place → List ℕ
-element_column Place.Absent = dash
-element_column (Place.At p n) = decimal_of p ++ (43 ∷ decimal_of n)
+abbrev pub element_column : Option Place → List ℕ
+element_column None = dash
+element_column (Some p) = decimal_of p.at ++ (43 ∷ decimal_of p.size)
 
 -- number 0, and what the message says
 unfoldable pub taken_columns : Reading → List ℕ
@@ -46,7 +46,7 @@ taken_columns r =
     ++ column (facility_column r.message.facility) ++ column (element_column r.user)
 
 -- the number 0 to 5, and if that is not 0 a `-` in each of the other seven columns
-unfoldable pub columns_of : Read → List ℕ
-columns_of (Read.Taken r) = taken_columns r
-columns_of (Read.Refused f) =
-    column (decimal_of (read_number (Read.Refused f))) ++ column dash ++ column dash ++ column dash ++ column dash ++ column dash ++ column dash ++ column dash
+unfoldable pub columns_of : Result Reading Fault → List ℕ
+columns_of (Ok r) = taken_columns r
+columns_of (Err f) =
+    column (decimal_of (read_number (Err f))) ++ column dash ++ column dash ++ column dash ++ column dash ++ column dash ++ column dash ++ column dash

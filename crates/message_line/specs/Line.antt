@@ -1,11 +1,13 @@
 -- The line of a message: the offset of its first octet in the capture, the number 0 to 5, and what the message says.
+use Rattle.std.specs.Prelude.{Result}
+use Rattle.message_fields.specs.declared.Reading.{Reading}
+use Rattle.message_fields.specs.declared.Fault.{Fault}
 use Rattle.std.specs.Prelude.{ℕ, List, [], ◌∷◌, ◌++◌}
-use Rattle.message_fields.specs.declared.Read.{Read}
 use Rattle.message.specs.Reading.{read_of}
 use Rattle.text.specs.Decimal.{decimal_of}
 use Rattle.message_line.specs.Columns.{columns_of}
 
-unfoldable pub line_with : ℕ → Read → List ℕ
+unfoldable pub line_with : ℕ → Result Reading Fault → List ℕ
 line_with offset r = decimal_of offset ++ columns_of r ++ (10 ∷ [])
 
 -- the line of a message that starts at an offset of its capture

@@ -7,9 +7,10 @@ ghost use Rattle.text.specs.Pieces.{Piece};
 ghost use Rattle.text.specs.Columns.{column};
 ghost use Rattle.message_line.specs.Column.{wish_letter, component_text, facility_column};
 
-use facility::{Component, Refusal, Service, Wish};
-use memory::{Wrote, end_of, write_octets};
+use facility::{Component, Refusal, Wish};
+use memory::{Bar, end_of, write_octets};
 use message_fields::Facilities;
+use rights::Service;
 use text::decimal::write_decimal;
 
 fn service_digit(s: Service) -> u8
@@ -89,7 +90,7 @@ fn put_facilities(buf: &mut [u8], at: usize, f: Facilities) -> usize
 
 // Writes the column, and the space before it; where they do not fit, nothing. They are laid out apart first, since how
 // long they are shows only when they are there.
-pub(crate) fn write_facilities(buf: &mut [u8], at: usize, f: Facilities) -> Wrote
+pub(crate) fn write_facilities(buf: &mut [u8], at: usize, f: Facilities) -> Result<usize, Bar>
     ensures written { Written true at (column (facility_column f)) buf.old buf.new result }
     ensures small { length (column (facility_column f)) ≤ 87 }
 {

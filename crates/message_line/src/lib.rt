@@ -13,10 +13,9 @@ ghost use Rattle.message_line.specs.Columns.{flag_digit, head_columns, cause_col
 ghost use Rattle.message_line.specs.Line.{line_of};
 
 use crate::facilities::write_facilities;
-use cause::Cause;
-use memory::{Wrote, end_of, write_octets};
+use memory::{Bar, end_of, write_octets};
 use message::read_message;
-use message_fields::{Fault, Header, Message, Place, Read, Reading, Single};
+use message_fields::{Fault, Header, Message, Place, Reading, Single};
 use message_types::kind_octet;
 use text::decimal::write_decimal;
 use text::hex::write_hex;
@@ -60,17 +59,17 @@ fn put_head(buf: &mut [u8], at: usize, h: Header) -> usize
     put_number(buf, a + 2, b' ', h.reference as u64)
 }
 
-fn put_cause(buf: &mut [u8], at: usize, c: Cause) -> usize
+fn put_cause(buf: &mut [u8], at: usize, c: Option<u8>) -> usize
     requires { at + 21 ≤ length buf.old }
     ensures { Piece 21 at (column (cause_column c)) buf.old buf.new result }
 {
     match c {
-        Cause::Absent => {
+        None => {
             buf[at] = b' ';
             buf[at + 1] = b'-';
             at + 2
         }
-        Cause::Value(v) => put_number(buf, at, b' ', v as u64),
+        Some(v) => put_number(buf, at, b' ', v as u64),
     }
 }
 
@@ -90,19 +89,19 @@ fn put_single(buf: &mut [u8], at: usize, s: Single) -> usize
     }
 }
 
-fn put_element(buf: &mut [u8], at: usize, p: Place) -> usize
+fn put_element(buf: &mut [u8], at: usize, p: Option<Place>) -> usize
     requires { at + 42 ≤ length buf.old }
     ensures { Piece 42 at (column (element_column p)) buf.old buf.new result }
 {
     match p {
-        Place::Absent => {
+        None => {
             buf[at] = b' ';
             buf[at + 1] = b'-';
             at + 2
         }
-        Place::At(i, n) => {
-            let a = put_number(buf, at, b' ', i as u64);
-            put_number(buf, a, b'+', n as u64)
+        Some(p) => {
+            let a = put_number(buf, at, b' ', p.at as u64);
+            put_number(buf, a, b'+', p.size as u64)
         }
     }
 }
@@ -150,7 +149,7 @@ fn fault_digit(f: Fault) -> u8
 #[tactic(auto, unfolding(crate::specs::Columns::columns_of))]
 fn put_refused(buf: &mut [u8], at: usize, f: Fault) -> usize
     requires { at + 16 ≤ length buf.old }
-    ensures { Piece 16 at (columns_of (Read.Refused f)) buf.old buf.new result }
+    ensures { Piece 16 at (columns_of (Err f)) buf.old buf.new result }
 {
     buf[at] = b' ';
     buf[at + 1] = fault_digit(f);
@@ -159,20 +158,20 @@ fn put_refused(buf: &mut [u8], at: usize, f: Fault) -> usize
 
 // The columns after the first.
 #[tactic(auto, unfolding(crate::specs::Columns::columns_of))]
-fn put_columns(buf: &mut [u8], at: usize, r: Read) -> usize
+fn put_columns(buf: &mut [u8], at: usize, r: Result<Reading, Fault>) -> usize
     requires { at + 181 ≤ length buf.old }
     ensures { Piece 181 at (columns_of r) buf.old buf.new result }
 {
     match r {
-        Read::Taken(t) => put_taken(buf, at, t),
-        Read::Refused(f) => put_refused(buf, at, f),
+        Ok(t) => put_taken(buf, at, t),
+        Err(f) => put_refused(buf, at, f),
     }
 }
 
 // Writes the line of a message that starts at an offset of its capture; where the line does not fit, nothing. It is
 // laid out apart first, since how long it is shows only when it is there.
 #[tactic(auto, unfolding(crate::specs::Line::line_of, crate::specs::Line::line_with))]
-pub fn write_line(buf: &mut [u8], at: usize, offset: u64, m: &[u8]) -> Wrote
+pub fn write_line(buf: &mut [u8], at: usize, offset: u64, m: &[u8]) -> Result<usize, Bar>
     ensures { Written true at (line_of offset m.now) buf.old buf.new result }
 {
     let read = read_message(m);

@@ -1,8 +1,8 @@
 -- "Nine types, hexadecimal: ALERTING 01, CALL PROCEEDING 02, SETUP 05, CONNECT 07, USER INFORMATION 20, DISCONNECT 45,
 -- RELEASE COMPLETE 5A, FACILITY 62, CONGESTION CONTROL 79."
+use Rattle.std.specs.Prelude.{Option, Some, None}
 use Rattle.std.specs.Prelude.{ℕ, cond, eqb}
 use Rattle.message_types.specs.declared.Kind.{Kind}
-use Rattle.message_types.specs.declared.Typed.{Typed}
 use Rattle.message_types.specs.declared.Class.{Class}
 
 abbrev pub kind_octet : Kind → ℕ
@@ -17,17 +17,17 @@ kind_octet Kind.Facility = 0x62
 kind_octet Kind.CongestionControl = 0x79
 
 -- the type that an octet names
-unfoldable pub kind_of : ℕ → Typed
+unfoldable pub kind_of : ℕ → Option Kind
 kind_of x =
-    cond (eqb x 0x01) (Typed.Known Kind.Alerting)
-    (cond (eqb x 0x02) (Typed.Known Kind.CallProceeding)
-    (cond (eqb x 0x05) (Typed.Known Kind.Setup)
-    (cond (eqb x 0x07) (Typed.Known Kind.Connect)
-    (cond (eqb x 0x20) (Typed.Known Kind.UserInformation)
-    (cond (eqb x 0x45) (Typed.Known Kind.Disconnect)
-    (cond (eqb x 0x5A) (Typed.Known Kind.ReleaseComplete)
-    (cond (eqb x 0x62) (Typed.Known Kind.Facility)
-    (cond (eqb x 0x79) (Typed.Known Kind.CongestionControl) Typed.Unknown))))))))
+    cond (eqb x 0x01) (Some Kind.Alerting)
+    (cond (eqb x 0x02) (Some Kind.CallProceeding)
+    (cond (eqb x 0x05) (Some Kind.Setup)
+    (cond (eqb x 0x07) (Some Kind.Connect)
+    (cond (eqb x 0x20) (Some Kind.UserInformation)
+    (cond (eqb x 0x45) (Some Kind.Disconnect)
+    (cond (eqb x 0x5A) (Some Kind.ReleaseComplete)
+    (cond (eqb x 0x62) (Some Kind.Facility)
+    (cond (eqb x 0x79) (Some Kind.CongestionControl) None))))))))
 
 -- "More data belongs to USER INFORMATION only, and a congestion level to CONGESTION CONTROL": which single octet a
 -- message may have

@@ -17,13 +17,6 @@ pub enum Kind {
     CongestionControl,
 }
 
-// The type that an octet names, if it is one of the nine.
-#[derive(Clone, Copy)]
-pub enum Typed {
-    Unknown,
-    Known(Kind),
-}
-
 // Which single octet a message of a type may have: none, More data, or a congestion level.
 #[derive(Clone, Copy)]
 pub enum Class {
@@ -33,20 +26,20 @@ pub enum Class {
 }
 
 #[tactic(auto, unfolding(crate::specs::Kind::kind_of))]
-pub fn kind_in(x: u8) -> Typed
+pub fn kind_in(x: u8) -> Option<Kind>
     ensures { result ≡ kind_of x }
 {
     match x {
-        0x01 => Typed::Known(Kind::Alerting),
-        0x02 => Typed::Known(Kind::CallProceeding),
-        0x05 => Typed::Known(Kind::Setup),
-        0x07 => Typed::Known(Kind::Connect),
-        0x20 => Typed::Known(Kind::UserInformation),
-        0x45 => Typed::Known(Kind::Disconnect),
-        0x5A => Typed::Known(Kind::ReleaseComplete),
-        0x62 => Typed::Known(Kind::Facility),
-        0x79 => Typed::Known(Kind::CongestionControl),
-        _ => Typed::Unknown,
+        0x01 => Some(Kind::Alerting),
+        0x02 => Some(Kind::CallProceeding),
+        0x05 => Some(Kind::Setup),
+        0x07 => Some(Kind::Connect),
+        0x20 => Some(Kind::UserInformation),
+        0x45 => Some(Kind::Disconnect),
+        0x5A => Some(Kind::ReleaseComplete),
+        0x62 => Some(Kind::Facility),
+        0x79 => Some(Kind::CongestionControl),
+        _ => None,
     }
 }
 

@@ -1,4 +1,7 @@
 -- What stands behind a shift that counts changes nothing.
+use Rattle.std.specs.Prelude.{Option, Result, Ok}
+use Rattle.message_fields.specs.declared.Fault.{Fault}
+use Rattle.message_fields.specs.declared.Place.{Place}
 use Prim.Native.Nat.{ℕ, zero, suc, ◌+◌, ◌-◌, ◌<◌, ◌≤◌}
 use mathlib.Core.List.{List, [], ◌∷◌}
 use mathlib.Core.Bool.{Bool, true, false}
@@ -6,7 +9,6 @@ use mathlib.Core.Path.{◌≡◌, refl, sym, ap, ◌∙◌}
 use native.Mathlib.Omega.{arith}
 use lib.ListN.{length, get_or, take, drop, length-take, length-drop}
 use lib.Seq.{take-take, get_or-take, get_or-drop, drop-drop}
-use Rattle.cause.specs.declared.Cause.{Cause}
 use Rattle.cause.specs.Element.{cause_of}
 use Rattle.facility.specs.declared.Component.{Component}
 use Rattle.facility.specs.Forms.{facility_of}
@@ -15,9 +17,7 @@ use Rattle.message_fields.specs.declared.Width.{Width}
 use Rattle.message_fields.specs.declared.Single.{Single}
 use Rattle.message_fields.specs.declared.Facilities.{Facilities}
 use Rattle.message_fields.specs.declared.Header.{Header}
-use Rattle.message_fields.specs.declared.Place.{Place}
 use Rattle.message_fields.specs.declared.Reading.{Reading}
-use Rattle.message_fields.specs.declared.Read.{Read}
 use Rattle.elements.specs.Elements.{then, elements, counted}
 use Rattle.elements.specs.Meaning.{first_place, reading_of, taken_from}
 use Rattle.message_types.specs.Kind.{kind_of}
@@ -152,7 +152,7 @@ abbrev Over : List ℕ → List ℕ → Type 0
 Over m n = (r : ℕ) → Ours m r → Ours n r × Alike m n r
 
 module _ (m n : List ℕ) (over : Over m n) where
-  cause_over : (p : ℕ) (c : Cause) → SaysCause m p c → SaysCause n p c
+  cause_over : (p : ℕ) (c : Option ℕ) → SaysCause m p c → SaysCause n p c
   cause_over p c s =
       let t = over p s.ours in
       let o = s.octet in
@@ -164,7 +164,7 @@ module _ (m n : List ℕ) (over : Over m n) where
       let o = s.octet in
       record { ours = t.0; octet = sym t.1.octet ∙ o; says = ap facility_of (sym (t.1.body (omega arith))) ∙ s.says }
 
-  place_over : (p : ℕ) (u : Place) → SaysPlace m p u → SaysPlace n p u
+  place_over : (p : ℕ) (u : Option Place) → SaysPlace m p u → SaysPlace n p u
   place_over p u s =
       let t = over p s.ours in
       let o = s.octet in
@@ -243,16 +243,16 @@ module _ (m n : List ℕ) (p : ℕ) (o : Ours m p) (same : take (p + 1) m ≡ ta
     over_shift = over_from past_shift
 
 -- what is taken of two such messages is the same
-one_reading : (g : List ℕ → Read) → DemandsOfReading g → (m n : List ℕ) (r s : Reading) → ((i : ℕ) → i < start m → get_or m i 0 ≡ get_or n i 0) → Over m n → Over n m → g m ≡ Read.Taken r → g n ≡ Read.Taken s → r ≡ s
+one_reading : (g : List ℕ → Result Reading Fault) → DemandsOfReading g → (m n : List ℕ) (r s : Reading) → ((i : ℕ) → i < start m → get_or m i 0 ≡ get_or n i 0) → Over m n → Over n m → g m ≡ Ok r → g n ≡ Ok s → r ≡ s
 one_reading g d m n r s h to back e f = gives_one n r s (gives_over m n h to back r (d.gives m r e)) (d.gives n s f)
 
-pub behind_lock : (g : List ℕ → Read) → DemandsOfReading g → BehindLock g
+pub behind_lock : (g : List ℕ → Result Reading Fault) → DemandsOfReading g → BehindLock g
 behind_lock g d m n p r s o l same e f =
     let to = over_lock m n p o same l in
     let t = to p o in
     one_reading g d m n r s (header_front m n p o same) to (over_lock n m p t.0 (sym same) (rw t.1.octet at l)) e f
 
-pub behind_shift : (g : List ℕ → Read) → DemandsOfReading g → BehindShift g
+pub behind_shift : (g : List ℕ → Result Reading Fault) → DemandsOfReading g → BehindShift g
 behind_shift g d m n p q r s o l same x y rest e f =
     let to = over_shift m n p o same l q x y rest in
     let t = to p o in

@@ -1,4 +1,7 @@
 -- Our reader meets what is demanded of reading, and whatever meets it is ours.
+use Rattle.std.specs.Prelude.{Option, Result, Ok, Err}
+use Rattle.message_fields.specs.declared.Reading.{Reading}
+use Rattle.message_fields.specs.declared.Place.{Place}
 use Prim.Native.Nat.{ℕ, zero, suc}
 use mathlib.Core.List.{List, [], ◌∷◌}
 use mathlib.Core.Bool.{Bool, true, false, cond}
@@ -7,16 +10,13 @@ use native.Mathlib.Omega.{arith}
 use borrow.Author.Tests.{leb-true, leb-false}
 use lib.ListN.{get_or}
 use lib.Dec.{leb, eqb}
-use Rattle.cause.specs.declared.Cause.{Cause}
 use Rattle.facility.specs.declared.Component.{Component}
 use Rattle.message_types.specs.declared.Kind.{Kind}
 use Rattle.message_fields.specs.declared.Width.{Width}
 use Rattle.message_fields.specs.declared.Single.{Single}
 use Rattle.message_fields.specs.declared.Facilities.{Facilities}
 use Rattle.message_fields.specs.declared.Header.{Header}
-use Rattle.message_fields.specs.declared.Place.{Place}
 use Rattle.message_fields.specs.declared.Fault.{Fault}
-use Rattle.message_fields.specs.declared.Read.{Read}
 use Rattle.message_fields.specs.Numbers.{fault_number, read_number}
 use Rattle.message_fields.specs.Width.{width_of}
 use Rattle.elements.specs.Elements.{Split, cut, whole, counted}
@@ -44,9 +44,9 @@ module _ (m : List ℕ) where
   has_flag true e = set (leb-true _ _ e)
   has_flag false e = clear (leb-false _ _ e)
 
-  abbrev Given : Read → Type 0
-  Given (Read.Taken r) = Gives m r
-  Given (Read.Refused f) = Unit {0}
+  abbrev Given : Result Reading Fault → Type 0
+  Given (Ok r) = Gives m r
+  Given (Err f) = Unit {0}
 
   given_split : (h : Header) (s : Split) → HasHeader m h → ListsIn m (start m) s → Given (taken_from h s)
   unfolding taken_from reading_of
@@ -89,10 +89,10 @@ module _ {A : Type 0} (says : ℕ → A → Type 0) (same : (p : ℕ) (a b : A) 
   first_one (none n) (first t) = absurd (not_silent t n)
   first_one (none n) (none n') = refl
 
-cause_one : (m : List ℕ) (p : ℕ) (a b : Cause) → SaysCause m p a → SaysCause m p b → a ≡ b
+cause_one : (m : List ℕ) (p : ℕ) (a b : Option ℕ) → SaysCause m p a → SaysCause m p b → a ≡ b
 cause_one m p a b s t = sym s.says ∙ t.says
 
-place_says : (m : List ℕ) (p : ℕ) (a b : Place) → SaysPlace m p a → SaysPlace m p b → a ≡ b
+place_says : (m : List ℕ) (p : ℕ) (a b : Option Place) → SaysPlace m p a → SaysPlace m p b → a ≡ b
 place_says m p a b s t = sym s.says ∙ t.says
 
 single_one : (m : List ℕ) (k : Kind) (p : ℕ) (a b : Single) → SaysSingle m k p a → SaysSingle m k p b → a ≡ b
@@ -201,15 +201,15 @@ fault_some Fault.Foreign e = omega arith
 fault_some Fault.Reference e = omega arith
 fault_some Fault.Kind e = omega arith
 
-module _ (f g : List ℕ → Read) (p : DemandsOfReading f) (q : DemandsOfReading g) (m : List ℕ) where
-  same_read : (a b : Read) → f m ≡ a → g m ≡ b → read_number a ≡ read_number b → a ≡ b
-  same_read (Read.Taken r) (Read.Taken s) e h n = ap Read.Taken (gives_one m r s (p.gives m r e) (q.gives m s h))
-  same_read (Read.Taken r) (Read.Refused c) e h n = absurd (fault_some c (sym n))
-  same_read (Read.Refused c) (Read.Taken s) e h n = absurd (fault_some c n)
-  same_read (Read.Refused c) (Read.Refused d) e h n = ap Read.Refused (sym (fault_so c) ∙ ap fault_for n ∙ fault_so d)
+module _ (f g : List ℕ → Result Reading Fault) (p : DemandsOfReading f) (q : DemandsOfReading g) (m : List ℕ) where
+  same_read : (a b : Result Reading Fault) → f m ≡ a → g m ≡ b → read_number a ≡ read_number b → a ≡ b
+  same_read (Ok r) (Ok s) e h n = ap Ok (gives_one m r s (p.gives m r e) (q.gives m s h))
+  same_read (Ok r) (Err c) e h n = absurd (fault_some c (sym n))
+  same_read (Err c) (Ok s) e h n = absurd (fault_some c n)
+  same_read (Err c) (Err d) e h n = ap Err (sym (fault_so c) ∙ ap fault_for n ∙ fault_so d)
 
   pub same : f m ≡ g m
   same = same_read (f m) (g m) refl refl ((p.numbers m (read_number (g m))).1 ((q.numbers m (read_number (g m))).0 refl))
 
-pub decided : (g : List ℕ → Read) → DemandsOfReading g → (m : List ℕ) → g m ≡ read_of m
+pub decided : (g : List ℕ → Result Reading Fault) → DemandsOfReading g → (m : List ℕ) → g m ≡ read_of m
 decided g p m = same g read_of p meets m

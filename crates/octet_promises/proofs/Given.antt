@@ -1,4 +1,6 @@
 -- What the definition gives back of the elements that count is what they say by their places.
+use Rattle.std.specs.Prelude.{Option, Some, None}
+use Rattle.message_fields.specs.declared.Place.{Place}
 use Prim.Native.Nat.{ℕ, suc, ◌<◌, ◌≤◌}
 use mathlib.Core.List.{List, [], ◌∷◌}
 use mathlib.Core.Bool.{Bool, true, false}
@@ -8,15 +10,12 @@ use native.Mathlib.Omega.{arith}
 use borrow.Author.Tests.{leb-true, leb-false, eqb-true, eqb-false}
 use lib.ListN.{get_or}
 use lib.Dec.{leb, eqb}
-use Rattle.cause.specs.declared.Cause.{Cause}
 use Rattle.cause.specs.Element.{cause_of}
 use Rattle.facility.specs.declared.Component.{Component}
-use Rattle.facility.specs.declared.Facility.{Facility}
 use Rattle.facility.specs.Forms.{facility_of}
 use Rattle.message_types.specs.declared.Kind.{Kind}
 use Rattle.message_types.specs.Kind.{class_of}
 use Rattle.message_fields.specs.declared.Single.{Single}
-use Rattle.message_fields.specs.declared.Place.{Place}
 use Rattle.elements.specs.Elements.{Element}
 use Rattle.elements.specs.Single.{more_in, level_in, single_of, or_single}
 use Rattle.elements.specs.Meaning.{first_single, first_cause, first_place, and_says, components, first_three}
@@ -136,10 +135,10 @@ module _ (m : List ℕ) where
   low : {r x : ℕ} → Ours m r → get_or m r 0 ≡ x → x < 0x80 → Counts r
   low o e h = record { looks = o; no_shift = inl (omega arith) }
 
-  own_cause : (r : ℕ) (c : Cause) → SaysCause m r c → Counts r
+  own_cause : (r : ℕ) (c : Option ℕ) → SaysCause m r c → Counts r
   own_cause r c s = low s.ours s.octet (omega arith)
 
-  own_place : (r : ℕ) (u : Place) → SaysPlace m r u → Counts r
+  own_place : (r : ℕ) (u : Option Place) → SaysPlace m r u → Counts r
   own_place r u s = low s.ours s.octet (omega arith)
 
   own_component : (r : ℕ) (c : Component) → SaysComponent m r c → Counts r
@@ -151,7 +150,7 @@ module _ (m : List ℕ) where
   turn_cause : (e : Element) (es : List Element) → Counts e.at → Stands m e → Turn (SaysCause m) Counts own_cause first_cause e es
   unfolding first_cause
   turn_cause e es p s =
-      by_cond (λ (v : Cause). SaysCause m e.at v ⊎ (((c : Cause) → SaysCause m e.at c → ⊥) × (v ≡ first_cause es))) (eqb e.id 0x08)
+      by_cond (λ (v : Option ℕ). SaysCause m e.at v ⊎ (((c : Option ℕ) → SaysCause m e.at c → ⊥) × (v ≡ first_cause es))) (eqb e.id 0x08)
       (λ t.
       let x = eqb-true e.id 0x08 t in
       inl (record { ours = p.looks; octet = s.octet ∙ x; says = ap cause_of (sym (s.body (omega arith))) }))
@@ -160,7 +159,7 @@ module _ (m : List ℕ) where
   turn_place : (e : Element) (es : List Element) → Counts e.at → Stands m e → Turn (SaysPlace m) Counts own_place first_place e es
   unfolding first_place
   turn_place e es p s =
-      by_cond (λ (v : Place). SaysPlace m e.at v ⊎ (((c : Place) → SaysPlace m e.at c → ⊥) × (v ≡ first_place es))) (eqb e.id 0x7E)
+      by_cond (λ (v : Option Place). SaysPlace m e.at v ⊎ (((c : Option Place) → SaysPlace m e.at c → ⊥) × (v ≡ first_place es))) (eqb e.id 0x7E)
       (λ t.
       let x = eqb-true e.id 0x7E t in
       inl (record { ours = p.looks; octet = s.octet ∙ x; says = rw (s.size (omega arith)) refl }))
@@ -179,10 +178,10 @@ module _ (m : List ℕ) where
   abbrev AllSay : ℕ → List Component → Type 0
   AllSay = All (SaysComponent m) Counts own_component
 
-  turn_component : {i : ℕ} (e : Element) (cs : List Component) (f : Facility) → i ≤ e.at → ((r : ℕ) → i ≤ r → r < e.at → Counts r → ⊥) → Counts e.at → get_or m e.at 0 ≡ 0x1C → facility_of (body_at m e.at) ≡ f → AllSay (suc e.at) cs → AllSay i (and_says f cs)
-  turn_component {i} e cs Facility.Absent h b p o z r =
+  turn_component : {i : ℕ} (e : Element) (cs : List Component) (f : Option Component) → i ≤ e.at → ((r : ℕ) → i ≤ r → r < e.at → Counts r → ⊥) → Counts e.at → get_or m e.at 0 ≡ 0x1C → facility_of (body_at m e.at) ≡ f → AllSay (suc e.at) cs → AllSay i (and_says f cs)
+  turn_component {i} e cs None h b p o z r =
       later_all (SaysComponent m) Counts own_component i e.at h b (λ c u. let y : ◌≡◌ {A = ℕ} 0 1 = cc (z, u.says) in omega arith) r
-  turn_component e cs (Facility.Says c) h b p o z r =
+  turn_component e cs (Some c) h b p o z r =
       then (at_once (SaysComponent m) Counts own_component h b (record { ours = p.looks; octet = o; says = z })) r
 
   all_say : {i : ℕ} {es : List Element} → Lists m Counts i es → AllSay i (components es)
@@ -204,7 +203,7 @@ module _ (m : List ℕ) where
   module _ (es : List Element) (l : Lists m Counts (start m) es) where
     pub gives_cause : GivesCause m (first_cause es)
     unfolding first_cause
-    gives_cause = first_of (SaysCause m) Counts own_cause Cause.Absent first_cause refl turn_cause l
+    gives_cause = first_of (SaysCause m) Counts own_cause None first_cause refl turn_cause l
 
     pub gives_single : (k : Kind) → GivesSingle m k (first_single k es)
     unfolding first_single
@@ -212,7 +211,7 @@ module _ (m : List ℕ) where
 
     pub gives_place : GivesPlace m (first_place es)
     unfolding first_place
-    gives_place = first_of (SaysPlace m) Counts own_place Place.Absent first_place refl turn_place l
+    gives_place = first_of (SaysPlace m) Counts own_place None first_place refl turn_place l
 
     pub gives_facilities : GivesFacilities m (first_three (components es))
     gives_facilities = three_of_lem (all_say l)

@@ -1,15 +1,16 @@
 -- Readers that go by other shifts are shut out, each by one message.
+use Rattle.std.specs.Prelude.{Option, Some, None, Result, Ok, Err}
+use Rattle.message_fields.specs.declared.Reading.{Reading}
+use Rattle.message_fields.specs.declared.Fault.{Fault}
 use Prim.Native.Nat.{ℕ}
 use mathlib.Core.List.{List, [], ◌∷◌, ◌++◌}
 use mathlib.Core.Bool.{Bool, true, false}
 use mathlib.Core.Path.{◌≡◌, refl, ap}
 use native.Mathlib.Omega.{arith}
 use lib.ListN.{drop}
-use Rattle.cause.specs.declared.Cause.{Cause}
 use Rattle.cause.specs.Element.{cause_of}
 use Rattle.message_types.specs.Kind.{kind_of}
 use Rattle.message_fields.specs.declared.Header.{Header}
-use Rattle.message_fields.specs.declared.Read.{Read}
 use Rattle.elements.specs.Elements.{Element, Split, cut, whole, then, elements, counted}
 use Rattle.elements.specs.Meaning.{first_cause, reading_of, taken_from}
 use Rattle.message.specs.Reading.{header_of, headed_of, read_of}
@@ -29,7 +30,7 @@ same_counted (e ∷ es) false = rw (same_counted es true, same_counted es false)
 
 module _ (m : List ℕ) where
   -- what is taken is taken again
-  abbrev Again : Read → Type 0
+  abbrev Again : Result Reading Fault → Type 0
   Again r = again our_shifts r (elements (start m) 0 (drop (start m) m)) ≡ r
 
   again_split : (h : Header) (s : Split) → again our_shifts (taken_from h s) s ≡ taken_from h s
@@ -42,18 +43,18 @@ module _ (m : List ℕ) where
   same_reader = read_by_lem m Again (λ f. refl) (λ w k e i. again_split (header_of w m k) _)
 
 -- a DISCONNECT with these octets before its Cause
-abbrev cause_in : Read → Cause
-cause_in (Read.Taken r) = r.message.cause
-cause_in (Read.Refused f) = Cause.Absent
+abbrev cause_in : Result Reading Fault → Option ℕ
+cause_in (Ok r) = r.message.cause
+cause_in (Err f) = None
 
 abbrev message : List ℕ → List ℕ
 message before = 8 ∷ 1 ∷ 5 ∷ 0x45 ∷ (before ++ (0x08 ∷ 0x02 ∷ 0x82 ∷ 0x90 ∷ []))
 
 -- two that differ on it
-apart : (g : List ℕ → Read) (m : List ℕ) (v : ℕ) → cause_in (g m) ≡ Cause.Value v → cause_in (read_of m) ≡ Cause.Absent → DemandsOfReading g → ⊥
+apart : (g : List ℕ → Result Reading Fault) (m : List ℕ) (v : ℕ) → cause_in (g m) ≡ Some v → cause_in (read_of m) ≡ None → DemandsOfReading g → ⊥
 apart g m v a b p = let t = ap cause_in (decided g p m) in let z : ◌≡◌ {A = ℕ} 0 1 = cc in omega arith
 
-apart_back : (g : List ℕ → Read) (m : List ℕ) (v : ℕ) → cause_in (g m) ≡ Cause.Absent → cause_in (read_of m) ≡ Cause.Value v → DemandsOfReading g → ⊥
+apart_back : (g : List ℕ → Result Reading Fault) (m : List ℕ) (v : ℕ) → cause_in (g m) ≡ None → cause_in (read_of m) ≡ Some v → DemandsOfReading g → ⊥
 apart_back g m v a b p = let t = ap cause_in (decided g p m) in let z : ◌≡◌ {A = ℕ} 0 1 = cc in omega arith
 
 pub shifts_bind : ShiftsBind

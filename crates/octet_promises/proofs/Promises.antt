@@ -1,4 +1,7 @@
 -- The promises, kept.
+use Rattle.std.specs.Prelude.{Result, Ok, Err}
+use Rattle.message_fields.specs.declared.Reading.{Reading}
+use Rattle.message_fields.specs.declared.Fault.{Fault}
 use Prim.Native.Nat.{ℕ, ◌+◌}
 use mathlib.Core.List.{List, ◌++◌}
 use mathlib.Core.Bool.{Bool, true, false, true≢false}
@@ -11,10 +14,8 @@ use lib.ListN.{length, take, drop}
 use lib.Seq.{take-append_seam}
 use lib.Dec.{leb}
 use Rattle.logic.proofs.Only.{exactly}
-use Rattle.memory.specs.declared.Wrote.{Wrote}
 use Rattle.memory.specs.Room.{placed, wrote_of, left_of}
 use Rattle.message_fields.specs.declared.Message.{Message}
-use Rattle.message_fields.specs.declared.Read.{Read}
 use Rattle.message.specs.Reading.{read_of}
 use Rattle.message.specs.Parts.{user_user_of}
 use Rattle.writer.specs.Fitting.{message_fits}
@@ -65,7 +66,7 @@ writes w u l = written w u l _ _ refl refl
 
 -- ROUND TRIP
 module _ (w : Message) (u l : List ℕ) (n : ℕ) where
-  back : (f r : Bool) → message_fits w u ≡ f → leb (0 + length (message_octets w u)) (length l) ≡ r → answer_of w u l ≡ Wrote.To n → Back w u (take n (buffer_of w u l))
+  back : (f r : Bool) → message_fits w u ≡ f → leb (0 + length (message_octets w u)) (length l) ≡ r → answer_of w u l ≡ Ok n → Back w u (take n (buffer_of w u l))
   unfolding wrote_of left_of
   back false r e t a = absurd (let b = rw e at a in let z : ◌≡◌ {A = ℕ} 0 1 = cc in omega arith)
   back true false e t a = absurd (let b = rw (e, t) at a in let z : ◌≡◌ {A = ℕ} 0 1 = cc in omega arith)
@@ -80,9 +81,9 @@ round_trip w u l n a = back w u l n _ _ refl refl a
 
 -- ALIKE: the message is found again in what is read
 module _ (other : Message) where
-  message_in : Read → Message
-  message_in (Read.Taken r) = r.message
-  message_in (Read.Refused f) = other
+  message_in : Result Reading Fault → Message
+  message_in (Ok r) = r.message
+  message_in (Err f) = other
 
   found_again : (w : Message) (u : List ℕ) → message_fits w u ≡ true → message_in (read_of (message_octets w u)) ≡ w
   unfolding message_in

@@ -1,4 +1,5 @@
 -- The writer's test and what the paper says is in range are one.
+use Rattle.std.specs.Prelude.{Option, Some, None}
 use Prim.Native.Nat.{ℕ, ◌≤◌}
 use mathlib.Core.List.{List}
 use mathlib.Core.Bool.{Bool, true, true≢false}
@@ -7,7 +8,6 @@ use mathlib.Core.Path.{◌≡◌, refl, sym}
 use native.Mathlib.Omega.{arith}
 use borrow.Author.Tests.{lt-ltb, ltb-true}
 use lib.Dec.{ltb}
-use Rattle.cause.specs.declared.Cause.{Cause}
 use Rattle.facility.specs.Facility.{invoke_number}
 use Rattle.message_types.specs.declared.Kind.{Kind}
 use Rattle.message_fields.specs.declared.Width.{Width}
@@ -79,13 +79,13 @@ single_fits_lem Kind.ReleaseComplete s e = rw e refl
 single_fits_lem Kind.Facility s e = rw e refl
 single_fits_lem Kind.CongestionControl s e = either level_fits Single.Ready Single.NotReady refl refl s e
 
-cause_in_lem : (c : Cause) → causes_fit c ≡ true → CauseIn c
-cause_in_lem Cause.Absent h = tt
-cause_in_lem (Cause.Value v) h = low v h
+cause_in_lem : (c : Option ℕ) → causes_fit c ≡ true → CauseIn c
+cause_in_lem None h = tt
+cause_in_lem (Some v) h = low v h
 
-cause_fits_lem : (c : Cause) → CauseIn c → causes_fit c ≡ true
-cause_fits_lem Cause.Absent h = refl
-cause_fits_lem (Cause.Value v) h = below v h
+cause_fits_lem : (c : Option ℕ) → CauseIn c → causes_fit c ≡ true
+cause_fits_lem None h = refl
+cause_fits_lem (Some v) h = below v h
 
 facility_in : (f : Facilities) → facilities_fit f ≡ true → FacilitiesIn f
 facility_in Facilities.Zero h = tt

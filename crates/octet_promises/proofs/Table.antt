@@ -1,4 +1,6 @@
 -- The reader's number is that of the first row that applies.
+use Rattle.std.specs.Prelude.{Option, Some, None, Result, Err}
+use Rattle.message_fields.specs.declared.Reading.{Reading}
 use Prim.Native.Nat.{ℕ, zero, suc, ◌+◌, ◌<◌, ◌≤◌}
 use mathlib.Core.List.{List, [], ◌∷◌}
 use mathlib.Core.Bool.{Bool, true, false, cond, true≢false}
@@ -11,11 +13,9 @@ use lib.Seq.{length-take-le}
 use lib.Dec.{ltb, leb, eqb}
 use Rattle.logic.specs.First.{Rows, end, row, First}
 use Rattle.message_types.specs.declared.Kind.{Kind}
-use Rattle.message_types.specs.declared.Typed.{Typed}
 use Rattle.message_fields.specs.declared.Width.{Width}
 use Rattle.message_fields.specs.declared.Header.{Header}
 use Rattle.message_fields.specs.declared.Fault.{Fault}
-use Rattle.message_fields.specs.declared.Read.{Read}
 use Rattle.message_types.specs.Kind.{kind_of}
 use Rattle.elements.specs.Elements.{Split, cut, whole, elements, is_whole}
 use Rattle.elements.specs.Meaning.{taken_from}
@@ -55,11 +55,11 @@ joins p zero (x ∷ xs) h = (
 )
 
 -- a row that is asked by a test, and one that is asked by the test's failing
-asked : {P : Type 0} (rows : Rows) (b : Bool) (f : Fault) (y : Read) → (b ≡ true → P) → (b ≡ false → P → ⊥) → (b ≡ false → First rows (read_number y)) → First (row P (fault_number f) rows) (read_number (cond b (Read.Refused f) y))
+asked : {P : Type 0} (rows : Rows) (b : Bool) (f : Fault) (y : Result Reading Fault) → (b ≡ true → P) → (b ≡ false → P → ⊥) → (b ≡ false → First rows (read_number y)) → First (row P (fault_number f) rows) (read_number (cond b (Err f) y))
 asked rows true f y p n r = inl (p refl, refl)
 asked rows false f y p n r = inr (n refl, r refl)
 
-asked_not : {P : Type 0} (rows : Rows) (b : Bool) (f : Fault) (y : Read) → (b ≡ false → P) → (b ≡ true → P → ⊥) → (b ≡ true → First rows (read_number y)) → First (row P (fault_number f) rows) (read_number (cond b y (Read.Refused f)))
+asked_not : {P : Type 0} (rows : Rows) (b : Bool) (f : Fault) (y : Result Reading Fault) → (b ≡ false → P) → (b ≡ true → P → ⊥) → (b ≡ true → First rows (read_number y)) → First (row P (fault_number f) rows) (read_number (cond b y (Err f)))
 asked_not rows true f y p n r = inr (n refl, r refl)
 asked_not rows false f y p n r = inl (p refl, refl)
 
@@ -90,9 +90,9 @@ unfolding taken_from
 element_rows h p l cut e = inl ((λ w. true≢false (sym (splits w p) ∙ ap is_whole e)), refl)
 element_rows h p l (whole es) e = inr ((λ n. n (joins p 0 l (ap is_whole e)).1), refl)
 
-typed_rows : (w : Width) (m : List ℕ) (t : Typed) → kind_of (get_or m (width_of w + 2) 0) ≡ t → First (on_type (width_of w) m) (read_number (typed_of w m t))
-typed_rows w m Typed.Unknown e = inl ((λ k i. let z : ◌≡◌ {A = ℕ} 0 1 = cc (e, kind_octet_lem i) in absurd (omega arith)), refl)
-typed_rows w m (Typed.Known k) e =
+typed_rows : (w : Width) (m : List ℕ) (t : Option Kind) → kind_of (get_or m (width_of w + 2) 0) ≡ t → First (on_type (width_of w) m) (read_number (typed_of w m t))
+typed_rows w m None e = inl ((λ k i. let z : ◌≡◌ {A = ℕ} 0 1 = cc (e, kind_octet_lem i) in absurd (omega arith)), refl)
+typed_rows w m (Some k) e =
     inr ((λ u. u k (names _ e)), element_rows (header_of w m k) (width_of w + 3) (drop (width_of w + 3) m) _ refl)
 
 headed_rows : (w : Width) (m : List ℕ) → First (on_reference (width_of w) m) (read_number (headed_of w m))
@@ -101,12 +101,12 @@ headed_rows w m =
     asked (on_type (width_of w) m) (ltb (length m) (width_of w + 3)) Fault.Short _ (λ t. ltb-true _ _ t) (λ t. too_many (ltb-false _ _ t)) (λ t. typed_rows w m _ refl)
 
 -- the rows from the reference length on
-width_rows : (m : List ℕ) (n : ℕ) → get_or m 1 0 ≡ n → First (on_width n m) (read_number (cond (eqb n 1) (headed_of Width.One m) (cond (eqb n 2) (headed_of Width.Two m) (Read.Refused Fault.Reference))))
+width_rows : (m : List ℕ) (n : ℕ) → get_or m 1 0 ≡ n → First (on_width n m) (read_number (cond (eqb n 1) (headed_of Width.One m) (cond (eqb n 2) (headed_of Width.Two m) (Err Fault.Reference))))
 width_rows m n e =
-    by_cond (λ (r : Read). First (on_width n m) (read_number r)) (eqb n 1)
+    by_cond (λ (r : Result Reading Fault). First (on_width n m) (read_number r)) (eqb n 1)
     (λ t. let one = eqb-true n 1 t in inr ((λ p. p.0 one), rw one (headed_rows Width.One m)))
     (λ t.
-    by_cond (λ (r : Read). First (on_width n m) (read_number r)) (eqb n 2)
+    by_cond (λ (r : Result Reading Fault). First (on_width n m) (read_number r)) (eqb n 2)
     (λ u. let two = eqb-true n 2 u in inr ((λ p. p.1 two), rw two (headed_rows Width.Two m)))
     (λ u. inl ((eqb-false n 1 t, eqb-false n 2 u), refl)))
 

@@ -1,4 +1,6 @@
 -- What is written reads back.
+use Rattle.std.specs.Prelude.{Option, Some, None, Ok}
+use Rattle.message_fields.specs.declared.Place.{Place}
 use Prim.Native.Nat.{ℕ, suc, ◌+◌, ◌*◌, ◌/◌, ◌%◌, ◌<◌, ◌≤◌}
 use mathlib.Core.List.{List, [], ◌∷◌, ◌++◌, append_assoc, append-nil}
 use mathlib.Core.Bool.{Bool, true, false, true≢false}
@@ -10,23 +12,18 @@ use borrow.Author.Tests.{ltb-true, le-leb, lt-leb, le-ltb}
 use lib.ListN.{length, length-append}
 use lib.Seq.{take-length, drop_at}
 use lib.Dec.{leb}
-use Rattle.cause.specs.declared.Cause.{Cause}
 use Rattle.facility.specs.declared.Component.{Component}
 use Rattle.facility.specs.Facility.{component_fits}
 use Rattle.facility.specs.Filling.{body_of, facility_octets}
 use Rattle.facility.proofs.filling.Back.{facility_back, cause_back}
 use Rattle.message_types.specs.declared.Class.{Class}
 use Rattle.message_types.specs.declared.Kind.{Kind}
-use Rattle.message_types.specs.declared.Typed.{Typed}
 use Rattle.message_fields.specs.declared.Width.{Width}
 use Rattle.message_fields.specs.declared.Single.{Single}
 use Rattle.message_fields.specs.declared.Facilities.{Facilities}
 use Rattle.message_fields.specs.declared.Header.{Header}
 use Rattle.message_fields.specs.declared.Message.{Message}
-use Rattle.message_fields.specs.declared.Place.{Place}
-use Rattle.elements.specs.declared.so_far.Seen.{Seen}
 use Rattle.elements.specs.declared.so_far.Found.{Found}
-use Rattle.message_fields.specs.declared.Read.{Read}
 use Rattle.message_types.specs.Kind.{kind_of, kind_octet, class_of}
 use Rattle.elements.specs.Elements.{element, elements, counted}
 use Rattle.elements.specs.Single.{more_in, level_in, single_of}
@@ -50,7 +47,7 @@ use Rattle.message_fields.specs.Width.{header_size}
 use Rattle.user_element.specs.Writable.{UserElement}
 
 -- THE HEADER
-kind_back : (k : Kind) → kind_of (kind_octet k) ≡ Typed.Known k
+kind_back : (k : Kind) → kind_of (kind_octet k) ≡ Some k
 unfolding kind_of
 kind_back Kind.Alerting = refl
 kind_back Kind.CallProceeding = refl
@@ -99,17 +96,17 @@ level_back s p m Class.Plain h = absurd (true≢false (sym h ∙ p))
 level_back s p m Class.Information h = absurd (true≢false (sym h ∙ m))
 level_back s p m Class.Congestion h = refl
 
-abbrev seen_for : Cause → Seen
-seen_for Cause.Absent = Seen.Unseen
-seen_for (Cause.Value v) = Seen.First (Cause.Value v)
+abbrev seen_for : Option ℕ → Option (Option ℕ)
+seen_for None = None
+seen_for (Some v) = Some (Some v)
 
-abbrev found : Single → Seen → Facilities → Place → Found
+abbrev found : Single → Option (Option ℕ) → Facilities → Option Place → Found
 found s c f u = record { single = s; cause = c; facility = f; user = u }
 
 -- where an element stands that begins at p
-abbrev placed : ℕ → List ℕ → Place
-placed p [] = Place.Absent
-placed p (x ∷ xs) = Place.At p (length (x ∷ xs))
+abbrev placed : ℕ → List ℕ → Option Place
+placed p [] = None
+placed p (x ∷ xs) = Some (record { at = p; size = (length (x ∷ xs)) })
 
 module _ (h : Header) where
   noted : (p q x : ℕ) (b rest : List ℕ) (f g : Found) → x < 128 → p + 2 + length b ≡ q → Adds h f (element p x b) g → going_on h false f (elements p 0 (x ∷ length b ∷ (b ++ rest))) ≡ going_on h false g (elements q 0 rest)
@@ -120,27 +117,27 @@ module _ (h : Header) where
   noted_alone p x rest f g l a =
       ap (going_on h false f) (alone p x rest (omega arith)) ∙ sym (notes h f g (element p x []) (elements (suc p) 0 rest) a (inr l))
 
-  single_is : (p q x : ℕ) (s : Single) (rest : List ℕ) → suc p ≡ q → 160 ≤ x → single_of h.kind x ≡ s → going_on h false nothing (elements p 0 (x ∷ rest)) ≡ going_on h false (found s Seen.Unseen Facilities.Zero Place.Absent) (elements q 0 rest)
+  single_is : (p q x : ℕ) (s : Single) (rest : List ℕ) → suc p ≡ q → 160 ≤ x → single_of h.kind x ≡ s → going_on h false nothing (elements p 0 (x ∷ rest)) ≡ going_on h false (found s None Facilities.Zero None) (elements q 0 rest)
   single_is p q x s rest e l i =
       rw (← e) (noted_alone p x rest nothing _ l (rw i at (adds_single h nothing (element p x []) (λ z. omega arith) (λ z. omega arith) (λ z. omega arith))))
 
-  single_read : (s : Single) (p q : ℕ) (rest : List ℕ) → p + length (single_octets s) ≡ q → single_fits h.kind s ≡ true → going_on h false nothing (elements p 0 (single_octets s ++ rest)) ≡ going_on h false (found s Seen.Unseen Facilities.Zero Place.Absent) (elements q 0 rest)
+  single_read : (s : Single) (p q : ℕ) (rest : List ℕ) → p + length (single_octets s) ≡ q → single_fits h.kind s ≡ true → going_on h false nothing (elements p 0 (single_octets s ++ rest)) ≡ going_on h false (found s None Facilities.Zero None) (elements q 0 rest)
   unfolding single_of
   single_read Single.Absent p q rest e f = let s : p ≡ q = omega arith in rw s refl
   single_read Single.MoreData p q rest e f = single_is p q 0xA0 Single.MoreData rest (omega arith) (omega arith) (more_back (class_of h.kind) f)
   single_read Single.Ready p q rest e f = single_is p q 0xB0 Single.Ready rest (omega arith) (omega arith) (level_back Single.Ready refl refl (class_of h.kind) f)
   single_read Single.NotReady p q rest e f = single_is p q 0xBF Single.NotReady rest (omega arith) (omega arith) (level_back Single.NotReady refl refl (class_of h.kind) f)
 
-  cause_read : (c : Cause) (p q : ℕ) (s : Single) (rest : List ℕ) → p + length (causes_octets c) ≡ q → causes_fit c ≡ true → going_on h false (found s Seen.Unseen Facilities.Zero Place.Absent) (elements p 0 (causes_octets c ++ rest)) ≡ going_on h false (found s (seen_for c) Facilities.Zero Place.Absent) (elements q 0 rest)
-  cause_read Cause.Absent p q s rest e f = let z : p ≡ q = omega arith in rw z refl
-  cause_read (Cause.Value v) p q s rest e f =
-      noted p q 0x08 (0x82 ∷ (0x80 + v) ∷ []) rest _ _ (omega arith) (omega arith) (rw (cause_back v f) at (adds_cause h (found s Seen.Unseen Facilities.Zero Place.Absent) (element p 0x08 (0x82 ∷ (0x80 + v) ∷ [])) refl))
+  cause_read : (c : Option ℕ) (p q : ℕ) (s : Single) (rest : List ℕ) → p + length (causes_octets c) ≡ q → causes_fit c ≡ true → going_on h false (found s None Facilities.Zero None) (elements p 0 (causes_octets c ++ rest)) ≡ going_on h false (found s (seen_for c) Facilities.Zero None) (elements q 0 rest)
+  cause_read None p q s rest e f = let z : p ≡ q = omega arith in rw z refl
+  cause_read (Some v) p q s rest e f =
+      noted p q 0x08 (0x82 ∷ (0x80 + v) ∷ []) rest _ _ (omega arith) (omega arith) (rw (cause_back v f) at (adds_cause h (found s None Facilities.Zero None) (element p 0x08 (0x82 ∷ (0x80 + v) ∷ [])) refl))
 
-  component_read : (c : Component) (p q : ℕ) (s : Single) (n : Seen) (f : Facilities) (rest : List ℕ) → p + length (facility_octets c) ≡ q → component_fits c ≡ true → going_on h false (found s n f Place.Absent) (elements p 0 (facility_octets c ++ rest)) ≡ going_on h false (found s n (one_more f c) Place.Absent) (elements q 0 rest)
+  component_read : (c : Component) (p q : ℕ) (s : Single) (n : Option (Option ℕ)) (f : Facilities) (rest : List ℕ) → p + length (facility_octets c) ≡ q → component_fits c ≡ true → going_on h false (found s n f None) (elements p 0 (facility_octets c ++ rest)) ≡ going_on h false (found s n (one_more f c) None) (elements q 0 rest)
   component_read c p q s n f rest e k =
-      noted p q 0x1C (body_of c) rest _ _ (omega arith) (omega arith) (rw (facility_back c k) at (adds_facility h (found s n f Place.Absent) (element p 0x1C (body_of c)) refl))
+      noted p q 0x1C (body_of c) rest _ _ (omega arith) (omega arith) (rw (facility_back c k) at (adds_facility h (found s n f None) (element p 0x1C (body_of c)) refl))
 
-  facility_read : (f : Facilities) (p q : ℕ) (s : Single) (n : Seen) (rest : List ℕ) → p + length (facilities_octets f) ≡ q → facilities_fit f ≡ true → going_on h false (found s n Facilities.Zero Place.Absent) (elements p 0 (facilities_octets f ++ rest)) ≡ going_on h false (found s n f Place.Absent) (elements q 0 rest)
+  facility_read : (f : Facilities) (p q : ℕ) (s : Single) (n : Option (Option ℕ)) (rest : List ℕ) → p + length (facilities_octets f) ≡ q → facilities_fit f ≡ true → going_on h false (found s n Facilities.Zero None) (elements p 0 (facilities_octets f ++ rest)) ≡ going_on h false (found s n f None) (elements q 0 rest)
   facility_read Facilities.Zero p q s n rest e k = let z : p ≡ q = omega arith in rw z refl
   facility_read (Facilities.One a) p q s n rest e k = component_read a p q s n Facilities.Zero rest e k
   facility_read (Facilities.Two a b) p q s n rest e k =
@@ -162,7 +159,7 @@ module _ (h : Header) where
   unfolding going_on elements counted
   ended p f = at_last h f
 
-  user_read : (u : List ℕ) (p : ℕ) (s : Single) (n : Seen) (f : Facilities) → (length u ≡ 0) ⊎ UserElement u → going_on h false (found s n f Place.Absent) (elements p 0 u) ≡ taken_with h (found s n f (placed p u))
+  user_read : (u : List ℕ) (p : ℕ) (s : Single) (n : Option (Option ℕ)) (f : Facilities) → (length u ≡ 0) ⊎ UserElement u → going_on h false (found s n f None) (elements p 0 u) ≡ taken_with h (found s n f (placed p u))
   user_read [] p s n f k = ended p _
   user_read (x ∷ []) p s n f (inl k) = absurd (omega arith)
   user_read (x ∷ []) p s n f (inr k) = let l = k.least in absurd (omega arith)
@@ -171,8 +168,8 @@ module _ (h : Header) where
       let i : x ≡ 0x7E = k.first in
       let j : y ≡ length b = omega (arith, k.second) in
       rw (i, j)
-      (ap (λ (l : List ℕ). going_on h false (found s n f Place.Absent) (elements p 0 (0x7E ∷ length b ∷ l))) (sym (append-nil b))
-      ∙ noted p (p + 2 + length b) 0x7E b [] _ _ (omega arith) refl (adds_place h (found s n f Place.Absent) (element p 0x7E b) refl)
+      (ap (λ (l : List ℕ). going_on h false (found s n f None) (elements p 0 (0x7E ∷ length b ∷ l))) (sym (append-nil b))
+      ∙ noted p (p + 2 + length b) 0x7E b [] _ _ (omega arith) refl (adds_place h (found s n f None) (element p 0x7E b) refl)
       ∙ ended (p + 2 + length b) _
       ∙ simp add-two)
 
@@ -208,15 +205,15 @@ module _ (w : Message) (u : List ℕ) (h : message_fits w u ≡ true) where
   unfolding message_octets front_octets
   apart = regroup (header_octets w.header) (single_octets w.single) (causes_octets w.cause) (facilities_octets w.facility) u
 
-  cause_same : (c : Cause) → cause_seen (seen_for c) ≡ c
-  cause_same Cause.Absent = refl
-  cause_same (Cause.Value v) = refl
+  cause_same : (c : Option ℕ) → cause_seen (seen_for c) ≡ c
+  cause_same None = refl
+  cause_same (Some v) = refl
 
   place_same : (l : List ℕ) → placed after_facility l ≡ place_for w l
   place_same [] = refl
   place_same (x ∷ xs) = rw (front_is w) refl
 
-  pub message_back : read_of (message_octets w u) ≡ Read.Taken (record { message = w; user = place_for w u })
+  pub message_back : read_of (message_octets w u) ≡ Ok (record { message = w; user = place_for w u })
   message_back =
       let f = fits w u h in
       let d = w.header in

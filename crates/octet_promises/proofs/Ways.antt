@@ -1,4 +1,6 @@
 -- What holds of every refusal, and of what is taken from the elements, holds of what is read.
+use Rattle.std.specs.Prelude.{Option, Some, None, Result, Err}
+use Rattle.message_fields.specs.declared.Reading.{Reading}
 use Prim.Native.Nat.{ℕ, ◌+◌}
 use mathlib.Core.List.{List}
 use mathlib.Core.Path.{◌≡◌, refl}
@@ -6,11 +8,9 @@ use borrow.Author.Tests.{eqb-true}
 use lib.ListN.{length, get_or, drop}
 use lib.Dec.{ltb, eqb}
 use Rattle.message_types.specs.declared.Kind.{Kind}
-use Rattle.message_types.specs.declared.Typed.{Typed}
 use Rattle.message_types.specs.Kind.{kind_of}
 use Rattle.message_fields.specs.declared.Width.{Width}
 use Rattle.message_fields.specs.declared.Fault.{Fault}
-use Rattle.message_fields.specs.declared.Read.{Read}
 use Rattle.message_fields.specs.Width.{width_of}
 use Rattle.elements.specs.Elements.{elements}
 use Rattle.elements.specs.Meaning.{taken_from}
@@ -20,10 +20,10 @@ use Rattle.octet_promises.specs.Ours.{start}
 use Rattle.octet_promises.proofs.Nine.{names}
 use Rattle.logic.proofs.Decide.{by_cond}
 
-module _ (m : List ℕ) (P : Read → Type 0) (no : (f : Fault) → P (Read.Refused f)) (so : (w : Width) (k : Kind) → get_or m 1 0 ≡ width_of w → IsKind (get_or m (get_or m 1 0 + 2) 0) k → P (taken_from (header_of w m k) (elements (start m) 0 (drop (start m) m)))) where
-  typed : (w : Width) → get_or m 1 0 ≡ width_of w → (t : Typed) → kind_of (get_or m (width_of w + 2) 0) ≡ t → P (typed_of w m t)
-  typed w e Typed.Unknown u = no Fault.Kind
-  typed w e (Typed.Known k) u = rw e at (so w k e (rw e (names _ u)))
+module _ (m : List ℕ) (P : Result Reading Fault → Type 0) (no : (f : Fault) → P (Err f)) (so : (w : Width) (k : Kind) → get_or m 1 0 ≡ width_of w → IsKind (get_or m (get_or m 1 0 + 2) 0) k → P (taken_from (header_of w m k) (elements (start m) 0 (drop (start m) m)))) where
+  typed : (w : Width) → get_or m 1 0 ≡ width_of w → (t : Option Kind) → kind_of (get_or m (width_of w + 2) 0) ≡ t → P (typed_of w m t)
+  typed w e None u = no Fault.Kind
+  typed w e (Some k) u = rw e at (so w k e (rw e (names _ u)))
 
   headed : (w : Width) → get_or m 1 0 ≡ width_of w → P (headed_of w m)
   unfolding headed_of

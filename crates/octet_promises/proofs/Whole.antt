@@ -1,4 +1,8 @@
 -- The user-user element that is given back is whole.
+use Rattle.std.specs.Prelude.{Option, Some, None, Result}
+use Rattle.message_fields.specs.declared.Reading.{Reading}
+use Rattle.message_fields.specs.declared.Fault.{Fault}
+use Rattle.message_fields.specs.declared.Place.{Place}
 use Prim.Native.Nat.{ℕ, zero, suc, ◌+◌, ◌-◌, ◌<◌, ◌≤◌}
 use mathlib.Core.List.{List, [], ◌∷◌}
 use mathlib.Core.Bool.{Bool, true, false}
@@ -10,8 +14,6 @@ use lib.ListN.{length, get_or, take, drop, length-drop}
 use lib.Seq.{length-take-le, drop-drop, get_or-drop}
 use lib.Dec.{leb, eqb}
 use Rattle.message_fields.specs.declared.Header.{Header}
-use Rattle.message_fields.specs.declared.Place.{Place}
-use Rattle.message_fields.specs.declared.Read.{Read}
 use Rattle.elements.specs.Elements.{element, Split, cut, whole, then, elements, locking, shifting, counted}
 use Rattle.elements.specs.Elements as el
 use Rattle.elements.specs.Meaning.{first_place, reading_of, taken_from}
@@ -99,9 +101,9 @@ module _ (m : List ℕ) where
     pub first : get_or m p 0 ≡ 0x7E
     pub second : get_or m (p + 1) 0 + 2 ≡ n
 
-  abbrev PlaceIn : Place → Type 0
-  PlaceIn Place.Absent = Unit {0}
-  PlaceIn (Place.At p n) = Stands p n
+  abbrev PlaceIn : Option Place → Type 0
+  PlaceIn None = Unit {0}
+  PlaceIn (Some s) = Stands s.at s.size
 
   place_in_lem : (es : List el.Element) → Each es → PlaceIn (first_place es)
   unfolding first_place
@@ -120,12 +122,12 @@ module _ (m : List ℕ) where
   split_in h (whole es) i = place_in_lem (counted false es) (counted_in false es i)
 
   read_in : PlaceIn (place_in (read_of m))
-  read_in = read_by_lem m (λ (r : Read). PlaceIn (place_in r)) (λ f. tt) (λ w k e i. split_in (header_of w m k) _ (elements_in (drop (start m) m) (start m) 0 refl))
+  read_in = read_by_lem m (λ (r : Result Reading Fault). PlaceIn (place_in r)) (λ f. tt) (λ w k e i. split_in (header_of w m k) _ (elements_in (drop (start m) m) (start m) 0 refl))
 
-  pub stands : (p n : ℕ) → place_in (read_of m) ≡ Place.At p n → Stands p n
+  pub stands : (p n : ℕ) → place_in (read_of m) ≡ Some (record { at = p; size = n }) → Stands p n
   stands p n e = rw e at read_in
 
-  pub whole_element_lem : (p n : ℕ) → place_in (read_of m) ≡ Place.At p n → promise.Element m p n
+  pub whole_element_lem : (p n : ℕ) → place_in (read_of m) ≡ Some (record { at = p; size = n }) → promise.Element m p n
   unfolding user_user_of
   whole_element_lem p n e =
       let s = stands p n e in

@@ -1,7 +1,9 @@
 -- Readers that differ from ours in the shifts alone, and that what is demanded of reading shuts out;
 -- `proofs/Others.antt` has a message for each.
+use Rattle.std.specs.Prelude.{Result, Ok, Err}
+use Rattle.message_fields.specs.declared.Reading.{Reading}
+use Rattle.message_fields.specs.declared.Fault.{Fault}
 use Rattle.std.specs.Prelude.{ℕ, List, [], ◌∷◌, Bool, true, false, cond, ◌&&◌, ◌≡◌, drop, leb}
-use Rattle.message_fields.specs.declared.Read.{Read}
 use Rattle.elements.specs.Elements.{Element, Split, cut, whole, elements}
 use Rattle.elements.specs.Meaning.{reading_of}
 use Rattle.message.specs.Reading.{read_of}
@@ -26,12 +28,12 @@ counted_by t true (e ∷ es) = counted_by t false es
 counted_by t false (e ∷ es) = cond (t.locks e.id) [] (cond (t.shifts e.id) (counted_by t true es) (e ∷ counted_by t false es))
 
 -- what our reader takes, read again by these
-abbrev pub again : Shifts → Read → Split → Read
-again t (Read.Refused f) s = Read.Refused f
-again t (Read.Taken r) cut = Read.Taken r
-again t (Read.Taken r) (whole es) = Read.Taken (reading_of r.message.header (counted_by t false es))
+abbrev pub again : Shifts → Result Reading Fault → Split → Result Reading Fault
+again t (Err f) s = Err f
+again t (Ok r) cut = Ok r
+again t (Ok r) (whole es) = Ok (reading_of r.message.header (counted_by t false es))
 
-unfoldable pub read_by : Shifts → List ℕ → Read
+unfoldable pub read_by : Shifts → List ℕ → Result Reading Fault
 read_by t m = again t (read_of m) (elements (start m) 0 (drop (start m) m))
 
 abbrev pub our_shifts : Shifts

@@ -1,15 +1,14 @@
 -- Which elements of a message are ours, and what is given back of them: over the places of its octets, and without the
 -- functions that the reader's definition is made of. What the body of one Cause or Facility element says is theirs.
+use Rattle.std.specs.Prelude.{Option, Some, None}
+use Rattle.message_fields.specs.declared.Place.{Place}
 use Rattle.std.specs.Prelude.{ℕ, suc, ◌+◌, ◌<◌, ◌≤◌, List, ◌⊎◌, Bool, true, false, ◌≡◌, length, get_or, take, drop}
-use Rattle.cause.specs.declared.Cause.{Cause}
 use Rattle.cause.specs.Element.{cause_of}
 use Rattle.facility.specs.declared.Component.{Component}
-use Rattle.facility.specs.declared.Facility.{Facility}
 use Rattle.facility.specs.Forms.{facility_of}
 use Rattle.message_types.specs.declared.Kind.{Kind}
 use Rattle.message_fields.specs.declared.Single.{Single}
 use Rattle.message_fields.specs.declared.Facilities.{Facilities}
-use Rattle.message_fields.specs.declared.Place.{Place}
 
 -- Where the element at p ends: "an octet of 80 or more stands alone; otherwise a length octet and that many octets
 -- follow."
@@ -52,7 +51,7 @@ body_at m p = take (get_or m (p + 1) 0) (drop (p + 2) m)
 
 -- What each of our elements says. "Used: Cause 08, Facility 1C, User-user 7E, More data A0, Congestion level B0 (ready)
 -- and BF (not ready). All others are passed over."
-pub record SaysCause (m : List ℕ) (p : ℕ) (c : Cause) : Type 0 where
+pub record SaysCause (m : List ℕ) (p : ℕ) (c : Option ℕ) : Type 0 where
   pub ours : Ours m p
   pub octet : get_or m p 0 ≡ 0x08
   pub says : cause_of (body_at m p) ≡ c
@@ -61,13 +60,13 @@ pub record SaysCause (m : List ℕ) (p : ℕ) (c : Cause) : Type 0 where
 pub record SaysComponent (m : List ℕ) (p : ℕ) (c : Component) : Type 0 where
   pub ours : Ours m p
   pub octet : get_or m p 0 ≡ 0x1C
-  pub says : facility_of (body_at m p) ≡ Facility.Says c
+  pub says : facility_of (body_at m p) ≡ Some c
 
 -- the whole element, with its first two octets
-pub record SaysPlace (m : List ℕ) (p : ℕ) (u : Place) : Type 0 where
+pub record SaysPlace (m : List ℕ) (p : ℕ) (u : Option Place) : Type 0 where
   pub ours : Ours m p
   pub octet : get_or m p 0 ≡ 0x7E
-  pub says : Place.At p (get_or m (p + 1) 0 + 2) ≡ u
+  pub says : Some (record { at = p; size = (get_or m (p + 1) 0 + 2) }) ≡ u
 
 -- "More data belongs to USER INFORMATION only, and a congestion level to CONGESTION CONTROL; elsewhere the reader
 -- passes them over."
@@ -102,8 +101,8 @@ pub data Three (says : ℕ → Component → Type 0) (i : ℕ) : Facilities → 
   three : {p q r : ℕ} {a b c : Component} → Next says i p a → Next says (suc p) q b → Next says (suc q) r c → Three says i (Facilities.Three a b c)
 
 -- OURS. What is given back of a message that is taken.
-abbrev pub GivesCause : List ℕ → Cause → Type 0
-GivesCause m = First (SaysCause m) Cause.Absent (start m)
+abbrev pub GivesCause : List ℕ → Option ℕ → Type 0
+GivesCause m = First (SaysCause m) None (start m)
 
 abbrev pub GivesSingle : List ℕ → Kind → Single → Type 0
 GivesSingle m k = First (SaysSingle m k) Single.Absent (start m)
@@ -111,5 +110,5 @@ GivesSingle m k = First (SaysSingle m k) Single.Absent (start m)
 abbrev pub GivesFacilities : List ℕ → Facilities → Type 0
 GivesFacilities m = Three (SaysComponent m) (start m)
 
-abbrev pub GivesPlace : List ℕ → Place → Type 0
-GivesPlace m = First (SaysPlace m) Place.Absent (start m)
+abbrev pub GivesPlace : List ℕ → Option Place → Type 0
+GivesPlace m = First (SaysPlace m) None (start m)

@@ -1,9 +1,12 @@
 -- What is promised of reading and writing, over the definitions. Each statement is a type; `proofs/Promises.antt` has
 -- its proof.
+use Rattle.std.specs.Prelude.{Option, Some, None, Result, Ok}
+use Rattle.memory.specs.declared.Bar.{Bar}
+use Rattle.message_fields.specs.declared.Reading.{Reading}
+use Rattle.message_fields.specs.declared.Fault.{Fault}
+use Rattle.message_fields.specs.declared.Place.{Place}
 use Rattle.std.specs.Prelude.{ℕ, ◌+◌, ◌<◌, ◌≤◌, List, [], ◌∷◌, ◌++◌, ◌⊎◌, true, ◌≡◌, length, get_or, take, drop}
 use Rattle.logic.specs.First.{Rows, end, row, Exactly}
-use Rattle.cause.specs.declared.Cause.{Cause}
-use Rattle.memory.specs.declared.Wrote.{Wrote}
 use Rattle.memory.specs.Room.{wrote_of, left_of}
 use Rattle.facility.specs.Facility.{invoke_number}
 use Rattle.memory.specs.Numbers.{wrote_number}
@@ -12,8 +15,6 @@ use Rattle.message_fields.specs.declared.Width.{Width}
 use Rattle.message_fields.specs.declared.Single.{Single}
 use Rattle.message_fields.specs.declared.Facilities.{Facilities}
 use Rattle.message_fields.specs.declared.Message.{Message}
-use Rattle.message_fields.specs.declared.Place.{Place}
-use Rattle.message_fields.specs.declared.Read.{Read}
 use Rattle.message.specs.Reading.{read_of}
 use Rattle.message.specs.Parts.{place_in, user_user_of}
 use Rattle.writer.specs.Fitting.{message_fits}
@@ -55,7 +56,7 @@ read_rows m =
     (row (Whole (drop (get_or m 1 0 + 3) m) → ⊥) 1 end)))))))
 
 -- for every octet string exactly one of 0 to 5, and each exactly when the table says: of any reader, and of ours
-abbrev pub Numbers : (List ℕ → Read) → Type 0
+abbrev pub Numbers : (List ℕ → Result Reading Fault) → Type 0
 Numbers g = (m : List ℕ) → Exactly (read_rows m) (read_number (g m))
 
 abbrev pub Reads : Type 0
@@ -70,7 +71,7 @@ pub record Element (m : List ℕ) (p n : ℕ) : Type 0 where
   pub octets : user_user_of m ≡ take n (drop p m)
 
 abbrev pub WholeElement : Type 0
-WholeElement = (m : List ℕ) (p n : ℕ) → place_in (read_of m) ≡ Place.At p n → Element m p n
+WholeElement = (m : List ℕ) (p n : ℕ) → place_in (read_of m) ≡ Some (record { at = p; size = n }) → Element m p n
 
 -- WRITES. What is in range, in the paper's words.
 abbrev pub highest : Width → ℕ
@@ -88,9 +89,9 @@ SingleIn Kind.ReleaseComplete s = s ≡ Single.Absent
 SingleIn Kind.Facility s = s ≡ Single.Absent
 SingleIn Kind.CongestionControl s = (s ≡ Single.Ready) ⊎ (s ≡ Single.NotReady)
 
-abbrev pub CauseIn : Cause → Type 0
-CauseIn Cause.Absent = Unit {0}
-CauseIn (Cause.Value v) = v ≤ 127
+abbrev pub CauseIn : Option ℕ → Type 0
+CauseIn None = Unit {0}
+CauseIn (Some v) = v ≤ 127
 
 abbrev pub FacilitiesIn : Facilities → Type 0
 FacilitiesIn Facilities.Zero = Unit {0}
@@ -106,7 +107,7 @@ pub record InRange (w : Message) (u : List ℕ) : Type 0 where
   pub user : (length u ≡ 0) ⊎ UserElement u
 
 -- what the writer answers, and what it leaves of a buffer
-abbrev pub answer_of : Message → List ℕ → List ℕ → Wrote
+abbrev pub answer_of : Message → List ℕ → List ℕ → Result ℕ Bar
 answer_of w u l = wrote_of (message_fits w u) 0 (message_octets w u) l
 
 abbrev pub buffer_of : Message → List ℕ → List ℕ → List ℕ
@@ -127,16 +128,16 @@ Writes = (w : Message) (u l : List ℕ) → Write w u l
 
 -- ROUND TRIP. For every message that the writer accepts and every buffer, whatever octets it held: reading the octets
 -- that were written gives the same message, with the place of its element, and the same element octet for octet.
-abbrev pub place_for : Message → List ℕ → Place
-place_for w [] = Place.Absent
-place_for w (x ∷ xs) = Place.At (length (front_octets w)) (length (x ∷ xs))
+abbrev pub place_for : Message → List ℕ → Option Place
+place_for w [] = None
+place_for w (x ∷ xs) = Some (record { at = (length (front_octets w)); size = (length (x ∷ xs)) })
 
 pub record Back (w : Message) (u m : List ℕ) : Type 0 where
-  pub message : read_of m ≡ Read.Taken (record { message = w; user = place_for w u })
+  pub message : read_of m ≡ Ok (record { message = w; user = place_for w u })
   pub element : user_user_of m ≡ u
 
 abbrev pub RoundTrip : Type 0
-RoundTrip = (w : Message) (u l : List ℕ) (n : ℕ) → answer_of w u l ≡ Wrote.To n → Back w u (take n (buffer_of w u l))
+RoundTrip = (w : Message) (u l : List ℕ) (n : ℕ) → answer_of w u l ≡ Ok n → Back w u (take n (buffer_of w u l))
 
 -- ALIKE. Of two messages that are written the same, the messages are the same, and so are their elements.
 abbrev pub Alike : Type 0

@@ -1,4 +1,6 @@
 -- A record is put together: its head, the element field, and zeros that fill them up.
+use Rattle.std.specs.Prelude.{Result}
+use Rattle.memory.specs.declared.Bar.{Bar}
 use Prim.Native.Nat.{ℕ, zero, suc, ◌+◌, ◌-◌, ◌%◌, ◌≤◌}
 use mathlib.Core.List.{List, ◌∷◌, ◌++◌, append-nil}
 use mathlib.Core.Bool.{Bool, true, false, cond}
@@ -10,7 +12,6 @@ use lib.ListN.{length, take, drop, set, replicate, length-append}
 use lib.Seq.{take-append-le, take_at, take-take, length-take-le}
 use Rattle.event.specs.declared.Event.{Event}
 use Rattle.recorder.specs.declared.Head.{Head}
-use Rattle.memory.specs.declared.Wrote.{Wrote}
 use Rattle.memory.specs.Room.{placed, Written}
 use Rattle.memory.specs.Putting.{end_of, Put}
 use Rattle.memory.proofs.Pieces.{settles, put_length}
@@ -22,7 +23,7 @@ dropped (suc k) zero = rw (zero-sub (suc k)) refl
 dropped (suc k) (suc n) = rw (suc-sub-suc n k) (dropped k n)
 
 -- octets put where there is room for them
-put_at : {at : ℕ} {p l l' : List ℕ} {w : Wrote} → at + length p ≤ length l → Written true at p l l' w → Put at p l l' (end_of w)
+put_at : {at : ℕ} {p l l' : List ℕ} {w : Result ℕ Bar} → at + length p ≤ length l → Written true at p l l' w → Put at p l l' (end_of w)
 put_at h a = settles refl h a refl
 
 after_one : (x : ℕ) (u l : List ℕ) → placed 1 u (x ∷ l) ≡ x ∷ (u ++ drop (length u) l)
@@ -30,14 +31,14 @@ unfolding placed
 after_one x u l = rw (one-add (length u)) refl
 
 -- the number of octets, the octets, and zeros
-pub field_put : (u l' : List ℕ) {w : Wrote} → length u ≤ 131 → Written true 1 u (set (replicate 132 0) 0 (length u % 256)) l' w → l' ≡ field_octets u
+pub field_put : (u l' : List ℕ) {w : Result ℕ Bar} → length u ≤ 131 → Written true 1 u (set (replicate 132 0) 0 (length u % 256)) l' w → l' ≡ field_octets u
 unfolding field_octets
 field_put u l' h a =
     let x : length u % 256 ≡ length u = omega arith in
     (put_at (omega arith) a).octets ∙ after_one (length u % 256) u (replicate 131 0) ∙ rw (x, dropped (length u) 131) refl
 
 -- a head of 12 octets, of which n count, and an element field after these
-pub joined : (n : ℕ) (h f z l l' : List ℕ) {v w : Wrote} → n ≤ 12 → length h ≡ 12 → length f ≡ 132 → length z ≡ 144 → Written true 0 h z l v → Written true n f l l' w → take (n + 132) l' ≡ take n h ++ f
+pub joined : (n : ℕ) (h f z l l' : List ℕ) {v w : Result ℕ Bar} → n ≤ 12 → length h ≡ 12 → length f ≡ 132 → length z ≡ 144 → Written true 0 h z l v → Written true n f l l' w → take (n + 132) l' ≡ take n h ++ f
 unfolding placed
 joined n h f z l l' k a b d p q =
     let s = put_at (omega arith) p in

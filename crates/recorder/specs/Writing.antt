@@ -1,4 +1,5 @@
 -- A record written: the inverse of reading one.
+use Rattle.std.specs.Prelude.{Option, Some, None}
 use Rattle.std.specs.Prelude.{ℕ, ◌+◌, ◌-◌, ◌/◌, ◌%◌, List, [], ◌∷◌, ◌++◌, ◌≡◌, Bool, true, false, cond, not, ◌&&◌, length, take, set, replicate, ltb, eqb}
 use Rattle.user_element.specs.Writable.{element_fits_of}
 use Rattle.event.specs.declared.Event.{Event}
@@ -8,7 +9,6 @@ use Rattle.sent.specs.declared.side.Side.{Side}
 use Rattle.services.specs.declared.Given.{Given}
 use Rattle.services.specs.declared.Request.{Request}
 use Rattle.trace.specs.declared.kind.RecordKind.{RecordKind}
-use Rattle.trace.specs.declared.kind.NamedKind.{NamedKind}
 use Rattle.trace.specs.declared.kind.Layout.{Layout}
 use Rattle.trace.specs.Kind.{layout_of}
 use Rattle.recorder.specs.declared.Head.{Head}
@@ -42,17 +42,17 @@ unfoldable pub field_octets : List ℕ → List ℕ
 field_octets u = length u ∷ (u ++ replicate (131 - length u) 0)
 
 -- the kind of record that an event is written as; two messages are no events
-abbrev pub kind_for : Event → NamedKind
-kind_for (Event.Setup n rights q) = NamedKind.Known RecordKind.Setup
-kind_for (Event.Alerting a) = NamedKind.Known RecordKind.Alerting
-kind_for (Event.Connect a) = NamedKind.Known RecordKind.Connect
-kind_for (Event.Information side more) = NamedKind.Known RecordKind.Information
-kind_for (Event.Facility side what) = NamedKind.Known RecordKind.Facility
-kind_for (Event.Disconnect side cause a) = NamedKind.Known RecordKind.Disconnect
-kind_for (Event.ReleaseComplete side) = NamedKind.Known RecordKind.ReleaseComplete
-kind_for Event.Tick = NamedKind.Known RecordKind.Tick
-kind_for Event.CallProceeding = NamedKind.Unknown
-kind_for Event.CongestionControl = NamedKind.Unknown
+abbrev pub kind_for : Event → Option RecordKind
+kind_for (Event.Setup n rights q) = Some RecordKind.Setup
+kind_for (Event.Alerting a) = Some RecordKind.Alerting
+kind_for (Event.Connect a) = Some RecordKind.Connect
+kind_for (Event.Information side more) = Some RecordKind.Information
+kind_for (Event.Facility side what) = Some RecordKind.Facility
+kind_for (Event.Disconnect side cause a) = Some RecordKind.Disconnect
+kind_for (Event.ReleaseComplete side) = Some RecordKind.ReleaseComplete
+kind_for Event.Tick = Some RecordKind.Tick
+kind_for Event.CallProceeding = None
+kind_for Event.CongestionControl = None
 
 -- three octets put into a record from a place on
 abbrev pub three_in : ℕ → ℕ → ℕ → ℕ → List ℕ → List ℕ
@@ -88,9 +88,9 @@ head_of l = cond (eqb l.element 0) l.size l.element
 abbrev pub head_as : RecordKind → ℕ → Event → List ℕ
 head_as k r e = fields_in e (layout_of k) ((layout_of k).octet ∷ r / 256 ∷ r % 256 ∷ replicate (head_of (layout_of k) - 3) 0)
 
-abbrev pub head_octets : NamedKind → ℕ → Event → List ℕ
-head_octets NamedKind.Unknown r e = []
-head_octets (NamedKind.Known k) r e = head_as k r e
+abbrev pub head_octets : Option RecordKind → ℕ → Event → List ℕ
+head_octets None r e = []
+head_octets (Some k) r e = head_as k r e
 
 -- a head whose first octets, so many as it says, are these
 pub record Holds (h : Head) (o : List ℕ) : Type 0 where
@@ -98,9 +98,9 @@ pub record Holds (h : Head) (o : List ℕ) : Type 0 where
   pub octets : take h.size h.octets ≡ o
 
 -- whether a record of the kind has an element field
-abbrev pub has_element : NamedKind → Bool
-has_element NamedKind.Unknown = false
-has_element (NamedKind.Known k) = not (eqb (layout_of k).element 0)
+abbrev pub has_element : Option RecordKind → Bool
+has_element None = false
+has_element (Some k) = not (eqb (layout_of k).element 0)
 
 abbrev pub fielded_of : Event → Bool
 fielded_of e = has_element (kind_for e)

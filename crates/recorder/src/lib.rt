@@ -7,11 +7,11 @@ ghost use Rattle.recorder.specs.Writing.{flag_octet, side_octet, request_octet, 
 
 use event::Event;
 use facility_rules::What;
-use memory::{Bar, Wrote, write_octets};
+use memory::{Bar, write_octets};
 use rights::Rights;
 use sent::side::Side;
-use services::{Answers, Given, Request, Requests};
-use trace::kind::{Layout, NamedKind, RecordKind, layout_of};
+use services::{ByService, Given, Request};
+use trace::kind::{Layout, RecordKind, layout_of};
 use user_element::writable::element_fits;
 
 // What comes before the element field of a record: its first octets, so many as `size` says.
@@ -80,7 +80,7 @@ fn low(x: u16) -> u8
 }
 
 // The kind of record that an event is written as.
-fn kind_for(e: Event) -> NamedKind
+fn kind_for(e: Event) -> Option<RecordKind>
     ensures { result ≡ kind_for e }
 {
     match e {
@@ -88,20 +88,20 @@ fn kind_for(e: Event) -> NamedKind
             reference: _,
             rights: _,
             requests: _,
-        } => NamedKind::Known(RecordKind::Setup),
-        Event::Alerting { answers: _ } => NamedKind::Known(RecordKind::Alerting),
-        Event::Connect { answers: _ } => NamedKind::Known(RecordKind::Connect),
-        Event::Information { side: _, more: _ } => NamedKind::Known(RecordKind::Information),
-        Event::Facility { side: _, what: _ } => NamedKind::Known(RecordKind::Facility),
+        } => Some(RecordKind::Setup),
+        Event::Alerting { answers: _ } => Some(RecordKind::Alerting),
+        Event::Connect { answers: _ } => Some(RecordKind::Connect),
+        Event::Information { side: _, more: _ } => Some(RecordKind::Information),
+        Event::Facility { side: _, what: _ } => Some(RecordKind::Facility),
         Event::Disconnect {
             side: _,
             cause: _,
             answers: _,
-        } => NamedKind::Known(RecordKind::Disconnect),
-        Event::ReleaseComplete { side: _ } => NamedKind::Known(RecordKind::ReleaseComplete),
-        Event::Tick => NamedKind::Known(RecordKind::Tick),
-        Event::CallProceeding => NamedKind::Unknown,
-        Event::CongestionControl => NamedKind::Unknown,
+        } => Some(RecordKind::Disconnect),
+        Event::ReleaseComplete { side: _ } => Some(RecordKind::ReleaseComplete),
+        Event::Tick => Some(RecordKind::Tick),
+        Event::CallProceeding => None,
+        Event::CongestionControl => None,
     }
 }
 
@@ -109,8 +109,8 @@ fn fielded(e: Event) -> bool
     ensures { result ≡ fielded_of e }
 {
     match kind_for(e) {
-        NamedKind::Unknown => false,
-        NamedKind::Known(k) => {
+        None => false,
+        Some(k) => {
             let l = layout_of(k);
             l.element != 0
         }
@@ -187,7 +187,7 @@ fn put_rights(o: [u8; 12], p: usize, r: Rights) -> [u8; 12]
     put(burst, p, 5, low(r.refill))
 }
 
-fn put_requests(o: [u8; 12], p: usize, q: Requests) -> [u8; 12]
+fn put_requests(o: [u8; 12], p: usize, q: ByService<Request>) -> [u8; 12]
     ensures { result ≡ three_in p (request_octet q.one) (request_octet q.two) (request_octet q.three) o }
 {
     let one = q.one;
@@ -202,7 +202,7 @@ fn put_requests(o: [u8; 12], p: usize, q: Requests) -> [u8; 12]
     )
 }
 
-fn put_answers(o: [u8; 12], p: usize, a: Answers) -> [u8; 12]
+fn put_answers(o: [u8; 12], p: usize, a: ByService<Given>) -> [u8; 12]
     ensures { result ≡ three_in p (given_octet a.one) (given_octet a.two) (given_octet a.three) o }
 {
     let one = a.one;
@@ -283,8 +283,8 @@ fn head_of(r: u16, e: Event) -> Head
     ensures { Holds result (head_octets (kind_for e) r e) }
 {
     match kind_for(e) {
-        NamedKind::Unknown => no_head(),
-        NamedKind::Known(k) => head_as(k, r, e),
+        None => no_head(),
+        Some(k) => head_as(k, r, e),
     }
 }
 
@@ -322,11 +322,11 @@ fn size_of(n: usize, has: bool) -> usize
 }
 
 // Writes a record from a place on, or no octet at all.
-pub fn write_record(buf: &mut [u8], at: usize, r: u16, e: Event, u: &[u8]) -> Wrote
+pub fn write_record(buf: &mut [u8], at: usize, r: u16, e: Event, u: &[u8]) -> Result<usize, Bar>
     ensures { Written (record_fits_of r e u.now) at (record_octets r e u.now) buf.old buf.new result }
 {
     if !record_fits(r, e, u) {
-        return Wrote::Refused(Bar::Range);
+        return Err(Bar::Range);
     }
     let head = head_of(r, e);
     let record = joined(head, u);

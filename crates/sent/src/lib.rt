@@ -5,15 +5,15 @@
 ghost use Rattle.std.specs.Prelude.{◌≡◌};
 ghost use Rattle.sent.specs.Message.{saying_of, bare_of, congestion_of, informs_of, only_if_of};
 
-use cause::{Cause, DISCARDED};
+use cause::DISCARDED;
 use message_types::Kind;
-use services::{Facilities, Said};
+use services::{ByService, Said};
 
 pub mod dispatch;
 pub mod side;
 
 // Nothing is said of any service.
-const SILENCE: Facilities = Facilities {
+const SILENCE: ByService<Said> = ByService {
     one: Said::Nothing,
     two: Said::Nothing,
     three: Said::Nothing,
@@ -30,24 +30,23 @@ pub enum Level {
 #[derive(Clone, Copy)]
 pub struct Message {
     pub kind: Kind,
-    pub cause: Cause,
+    pub cause: Option<u8>,
     pub level: Level,
-    pub said: Facilities,
+    pub said: ByService<Said>,
     pub more: bool,
     pub element: bool,
 }
 
-#[derive(Clone, Copy)]
-pub enum Sent {
-    Absent,
-    Present(Message),
-}
-
 #[tactic(auto, unfolding(crate::specs::Message::saying_of))]
-pub fn saying(kind: Kind, cause: Cause, said: Facilities, element: bool) -> Sent
+pub fn saying(
+    kind: Kind,
+    cause: Option<u8>,
+    said: ByService<Said>,
+    element: bool,
+) -> Option<Message>
     ensures { result ≡ saying_of kind cause said element }
 {
-    Sent::Present(Message {
+    Some(Message {
         kind: kind,
         cause: cause,
         level: Level::Absent,
@@ -59,7 +58,7 @@ pub fn saying(kind: Kind, cause: Cause, said: Facilities, element: bool) -> Sent
 
 // A message that says nothing of any service and holds no element.
 #[tactic(auto, unfolding(crate::specs::Message::bare_of, crate::specs::Message::silence))]
-pub fn bare(kind: Kind, cause: Cause) -> Sent
+pub fn bare(kind: Kind, cause: Option<u8>) -> Option<Message>
     ensures { result ≡ bare_of kind cause }
 {
     saying(kind, cause, SILENCE, false)
@@ -67,12 +66,12 @@ pub fn bare(kind: Kind, cause: Cause) -> Sent
 
 // CONGESTION CONTROL, ready or not ready: both with the same cause.
 #[tactic(auto, unfolding(crate::specs::Message::congestion_of, crate::specs::Message::silence))]
-pub fn congestion(level: Level) -> Sent
+pub fn congestion(level: Level) -> Option<Message>
     ensures { result ≡ congestion_of level }
 {
-    Sent::Present(Message {
+    Some(Message {
         kind: Kind::CongestionControl,
-        cause: Cause::Value(DISCARDED),
+        cause: Some(DISCARDED),
         level: level,
         said: SILENCE,
         more: false,
@@ -82,12 +81,12 @@ pub fn congestion(level: Level) -> Sent
 
 // USER INFORMATION with the event's element.
 #[tactic(auto, unfolding(crate::specs::Message::informs_of, crate::specs::Message::silence))]
-pub fn informs(more: bool) -> Sent
+pub fn informs(more: bool) -> Option<Message>
     ensures { result ≡ informs_of more }
 {
-    Sent::Present(Message {
+    Some(Message {
         kind: Kind::UserInformation,
-        cause: Cause::Absent,
+        cause: None,
         level: Level::Absent,
         said: SILENCE,
         more: more,
@@ -96,8 +95,8 @@ pub fn informs(more: bool) -> Sent
 }
 
 #[tactic(auto, unfolding(crate::specs::Message::only_if_of))]
-pub fn only_if(b: bool, s: Sent) -> Sent
+pub fn only_if(b: bool, s: Option<Message>) -> Option<Message>
     ensures { result ≡ only_if_of b s }
 {
-    if b { s } else { Sent::Absent }
+    if b { s } else { None }
 }

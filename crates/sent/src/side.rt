@@ -8,6 +8,13 @@ pub enum Side {
     Called,
 }
 
+// One thing for each side.
+#[derive(Clone, Copy)]
+pub struct BySide<T> {
+    pub calling: T,
+    pub called: T,
+}
+
 pub fn peer(side: Side) -> Side
     ensures { result ≡ peer_of side }
 {

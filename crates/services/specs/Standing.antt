@@ -1,7 +1,7 @@
 -- What was asked for of each service, what was answered, how it stands, and what a message says of it.
+use Rattle.services.specs.declared.ByService.{ByService}
 use Rattle.std.specs.Prelude.{Bool, true, false, ◌||◌}
 use Rattle.services.specs.declared.Standing.{Standing}
-use Rattle.services.specs.declared.Standings.{Standings}
 
 abbrev pub in_force_of : Standing → Bool
 in_force_of Standing.Unasked = false
@@ -22,5 +22,5 @@ awaits_of Standing.Closed = false
 unfoldable pub remains_of : Standing → Bool
 remains_of s = in_force_of s || awaits_of s
 
-unfoldable pub no_services : Standings
+unfoldable pub no_services : ByService Standing
 no_services = record { one = Standing.Unasked; two = Standing.Unasked; three = Standing.Unasked }

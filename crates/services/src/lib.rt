@@ -4,6 +4,14 @@
 ghost use Rattle.std.specs.Prelude.{◌≡◌};
 ghost use Rattle.services.specs.Standing.{in_force_of, awaits_of, remains_of, no_services};
 
+// One thing for each of the three services.
+#[derive(Clone, Copy)]
+pub struct ByService<T> {
+    pub one: T,
+    pub two: T,
+    pub three: T,
+}
+
 // What SETUP says of a service.
 #[derive(Clone, Copy)]
 pub enum Request {
@@ -12,26 +20,12 @@ pub enum Request {
     Required,
 }
 
-#[derive(Clone, Copy)]
-pub struct Requests {
-    pub one: Request,
-    pub two: Request,
-    pub three: Request,
-}
-
 // What the called side answers.
 #[derive(Clone, Copy)]
 pub enum Given {
     Silent,
     Accepted,
     Rejected,
-}
-
-#[derive(Clone, Copy)]
-pub struct Answers {
-    pub one: Given,
-    pub two: Given,
-    pub three: Given,
 }
 
 // How a service stands in a call. A request is open while it is Preferred or Required.
@@ -44,13 +38,6 @@ pub enum Standing {
     Closed,
 }
 
-#[derive(Clone, Copy)]
-pub struct Standings {
-    pub one: Standing,
-    pub two: Standing,
-    pub three: Standing,
-}
-
 // What a message says of a service.
 #[derive(Clone, Copy)]
 pub enum Said {
@@ -60,14 +47,6 @@ pub enum Said {
     Accepted,
     ByUser,
     ByNetwork,
-}
-
-// What the Facility elements of a message say.
-#[derive(Clone, Copy)]
-pub struct Facilities {
-    pub one: Said,
-    pub two: Said,
-    pub three: Said,
 }
 
 pub fn in_force(s: Standing) -> bool
@@ -98,10 +77,10 @@ pub fn remains(s: Standing) -> bool
 }
 
 #[tactic(auto, unfolding(crate::specs::Standing::no_services))]
-pub fn no_services() -> Standings
+pub fn no_services() -> ByService<Standing>
     ensures { result ≡ no_services }
 {
-    Standings {
+    ByService {
         one: Standing::Unasked,
         two: Standing::Unasked,
         three: Standing::Unasked,

@@ -1,20 +1,18 @@
 -- What SETUP asks for, held against the rights. had says whether the rights have the service.
+use Rattle.std.specs.Prelude.{Option, Some, None}
+use Rattle.sent.specs.declared.Message.{Message}
+use Rattle.services.specs.declared.ByService.{ByService}
 use Rattle.std.specs.Prelude.{Bool, false, cond, ◌||◌, not, ◌&&◌}
-use Rattle.cause.specs.declared.Cause.{Cause}
 use Rattle.user_element.specs.declared.Seen.{Seen}
 use Rattle.rights.specs.declared.Rights.{Rights}
 use Rattle.rights.specs.declared.Service.{Service}
-use Rattle.services.specs.declared.Facilities.{Facilities}
 use Rattle.services.specs.declared.Request.{Request}
-use Rattle.services.specs.declared.Requests.{Requests}
 use Rattle.services.specs.declared.Said.{Said}
 use Rattle.services.specs.declared.Standing.{Standing}
-use Rattle.services.specs.declared.Standings.{Standings}
 use Rattle.rights.specs.Rights.{has_of}
 use Rattle.cause.specs.Cause.{not_subscribed}
 use Rattle.user_element.specs.Element.{whole_of, noted_of, goes_out_of}
 use Rattle.message_types.specs.declared.Kind.{Kind}
-use Rattle.sent.specs.declared.Sent.{Sent}
 use Rattle.phases.specs.declared.Phase.{Phase}
 use Rattle.sent.specs.Message.{saying_of}
 use Rattle.sent.specs.Dispatch.{by_one_of, to_users_of}
@@ -56,7 +54,7 @@ network_refusal_of Request.Unasked had = Said.Nothing
 network_refusal_of Request.Preferred had = cond had Said.Nothing Said.ByNetwork
 network_refusal_of Request.Required had = cond had Said.Nothing Said.ByNetwork
 
-unfoldable pub standings_of : Rights → Requests → Seen → Standings
+unfoldable pub standings_of : Rights → ByService Request → Seen → ByService Standing
 standings_of rights q s =
     record {
       one = first_standing_of q.one s (has_of rights Service.One);
@@ -64,12 +62,12 @@ standings_of rights q s =
       three = asked_standing_of q.three (has_of rights Service.Three);
     }
 
-unfoldable pub lacks_of : Rights → Requests → Bool
+unfoldable pub lacks_of : Rights → ByService Request → Bool
 lacks_of rights q =
     (lacking_of q.one (has_of rights Service.One) || lacking_of q.two (has_of rights Service.Two))
     || lacking_of q.three (has_of rights Service.Three)
 
-unfoldable pub passed_requests_of : Rights → Requests → Facilities
+unfoldable pub passed_requests_of : Rights → ByService Request → ByService Said
 passed_requests_of rights q =
     record {
       one = passed_request_of q.one (has_of rights Service.One);
@@ -77,7 +75,7 @@ passed_requests_of rights q =
       three = passed_request_of q.three (has_of rights Service.Three);
     }
 
-unfoldable pub network_refusals_of : Rights → Requests → Facilities
+unfoldable pub network_refusals_of : Rights → ByService Request → ByService Said
 network_refusals_of rights q =
     record {
       one = network_refusal_of q.one (has_of rights Service.One);
@@ -91,21 +89,21 @@ setup_phase_of lacking = cond lacking Phase.Ended Phase.Requested
 
 -- "RELEASE COMPLETE to the caller, cause 50, rejectedByNetwork for every asked service the rights lack"; otherwise
 -- "CALL PROCEEDING to the caller with rejectedByNetwork for each explicit preferred service lacking"
-unfoldable pub to_caller_of : Bool → Facilities → Sent
+unfoldable pub to_caller_of : Bool → ByService Said → Option Message
 to_caller_of lacking refusals =
-    cond lacking (saying_of Kind.ReleaseComplete (Cause.Value not_subscribed) refusals false)
-    (saying_of Kind.CallProceeding Cause.Absent refusals false)
+    cond lacking (saying_of Kind.ReleaseComplete (Some not_subscribed) refusals false)
+    (saying_of Kind.CallProceeding None refusals false)
 
 -- "Otherwise SETUP goes on with the remaining requests and the element"
-unfoldable pub to_called_of : Bool → Facilities → Bool → Sent
-to_called_of lacking requests element = cond lacking Sent.Absent (saying_of Kind.Setup Cause.Absent requests element)
+unfoldable pub to_called_of : Bool → ByService Said → Bool → Option Message
+to_called_of lacking requests element = cond lacking None (saying_of Kind.Setup None requests element)
 
 -- "the element (if service 1 remains)", and the message goes on
-unfoldable pub setup_carries_of : Rights → Requests → Seen → Bool
+unfoldable pub setup_carries_of : Rights → ByService Request → Seen → Bool
 setup_carries_of rights q seen = not (lacks_of rights q) && remains_of (standings_of rights q seen).one
 
 -- what a SETUP that is taken opens with
-abbrev pub opening_of : Rights → Requests → Seen → Opening
+abbrev pub opening_of : Rights → ByService Request → Seen → Opening
 opening_of rights q seen =
     record {
       phase = setup_phase_of (lacks_of rights q);

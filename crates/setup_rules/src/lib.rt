@@ -4,13 +4,13 @@
 ghost use Rattle.std.specs.Prelude.{◌≡◌};
 ghost use Rattle.setup_rules.specs.Requests.{asked_standing_of, first_standing_of, lacking_of, passed_request_of, network_refusal_of, standings_of, lacks_of, network_refusals_of, passed_requests_of, setup_phase_of, to_caller_of, to_called_of, opening_of};
 
-use cause::{Cause, NOT_SUBSCRIBED};
+use cause::NOT_SUBSCRIBED;
 use message_types::Kind;
 use phases::Phase;
 use rights::{Rights, Service, has};
 use sent::dispatch::{Dispatch, by_one, to_users};
-use sent::{Sent, saying};
-use services::{Facilities, Request, Requests, Said, Standing, Standings, remains};
+use sent::{Message, saying};
+use services::{ByService, Request, Said, Standing, remains};
 use user_element::{Note, Seen, goes_out, noted, whole};
 
 // What a SETUP that is taken makes of the call: its phase, how each service stands, the element's note, and the two
@@ -18,7 +18,7 @@ use user_element::{Note, Seen, goes_out, noted, whole};
 #[derive(Clone, Copy)]
 pub struct Opening {
     pub phase: Phase,
-    pub standings: Standings,
+    pub standings: ByService<Standing>,
     pub note: Note,
     pub dispatch: Dispatch,
 }
@@ -104,13 +104,13 @@ fn network_refusal(q: Request, had: bool) -> Said
 
 // How each service stands after SETUP.
 #[tactic(auto, unfolding(crate::specs::Requests::standings_of))]
-fn standings_of(rights: Rights, q: Requests, s: Seen) -> Standings
+fn standings_of(rights: Rights, q: ByService<Request>, s: Seen) -> ByService<Standing>
     ensures { result ≡ standings_of rights q s }
 {
     let one = q.one;
     let two = q.two;
     let three = q.three;
-    Standings {
+    ByService {
         one: first_standing(one, s, has(rights, Service::One)),
         two: asked_standing(two, has(rights, Service::Two)),
         three: asked_standing(three, has(rights, Service::Three)),
@@ -119,7 +119,7 @@ fn standings_of(rights: Rights, q: Requests, s: Seen) -> Standings
 
 // Whether the rights lack a required service.
 #[tactic(auto, unfolding(crate::specs::Requests::lacks_of))]
-fn lacks(rights: Rights, q: Requests) -> bool
+fn lacks(rights: Rights, q: ByService<Request>) -> bool
     ensures { result ≡ lacks_of rights q }
 {
     let one = q.one;
@@ -131,13 +131,13 @@ fn lacks(rights: Rights, q: Requests) -> bool
 }
 
 #[tactic(auto, unfolding(crate::specs::Requests::network_refusals_of))]
-fn network_refusals(rights: Rights, q: Requests) -> Facilities
+fn network_refusals(rights: Rights, q: ByService<Request>) -> ByService<Said>
     ensures { result ≡ network_refusals_of rights q }
 {
     let one = q.one;
     let two = q.two;
     let three = q.three;
-    Facilities {
+    ByService {
         one: network_refusal(one, has(rights, Service::One)),
         two: network_refusal(two, has(rights, Service::Two)),
         three: network_refusal(three, has(rights, Service::Three)),
@@ -145,13 +145,13 @@ fn network_refusals(rights: Rights, q: Requests) -> Facilities
 }
 
 #[tactic(auto, unfolding(crate::specs::Requests::passed_requests_of))]
-fn passed_requests(rights: Rights, q: Requests) -> Facilities
+fn passed_requests(rights: Rights, q: ByService<Request>) -> ByService<Said>
     ensures { result ≡ passed_requests_of rights q }
 {
     let one = q.one;
     let two = q.two;
     let three = q.three;
-    Facilities {
+    ByService {
         one: passed_request(one, has(rights, Service::One)),
         two: passed_request(two, has(rights, Service::Two)),
         three: passed_request(three, has(rights, Service::Three)),
@@ -171,35 +171,30 @@ fn setup_phase(lacking: bool) -> Phase
 
 // The caller hears what the rights lack, whether the call ends or goes on.
 #[tactic(auto, unfolding(crate::specs::Requests::to_caller_of))]
-fn to_caller(lacking: bool, refusals: Facilities) -> Sent
+fn to_caller(lacking: bool, refusals: ByService<Said>) -> Option<Message>
     ensures { result ≡ to_caller_of lacking refusals }
 {
     if lacking {
-        saying(
-            Kind::ReleaseComplete,
-            Cause::Value(NOT_SUBSCRIBED),
-            refusals,
-            false,
-        )
+        saying(Kind::ReleaseComplete, Some(NOT_SUBSCRIBED), refusals, false)
     } else {
-        saying(Kind::CallProceeding, Cause::Absent, refusals, false)
+        saying(Kind::CallProceeding, None, refusals, false)
     }
 }
 
 #[tactic(auto, unfolding(crate::specs::Requests::to_called_of))]
-fn to_called(lacking: bool, requests: Facilities, element: bool) -> Sent
+fn to_called(lacking: bool, requests: ByService<Said>, element: bool) -> Option<Message>
     ensures { result ≡ to_called_of lacking requests element }
 {
     if lacking {
-        Sent::Absent
+        None
     } else {
-        saying(Kind::Setup, Cause::Absent, requests, element)
+        saying(Kind::Setup, None, requests, element)
     }
 }
 
 // The element goes on where the message does and service 1 remains.
 #[tactic(auto, unfolding(crate::specs::Requests::setup_carries_of))]
-pub fn opens(rights: Rights, q: Requests, s: Seen) -> Opening
+pub fn opens(rights: Rights, q: ByService<Request>, s: Seen) -> Opening
     ensures { result ≡ opening_of rights q s }
 {
     let standings = standings_of(rights, q, s);

@@ -1,4 +1,5 @@
 -- What a search for a later record of the same reference shows of a table.
+use Rattle.std.specs.Prelude.{Option, Some}
 use mathlib.Core.Path.{◌≡◌, refl, sym, ◌∙◌, ap, subst}
 use Prim.Native.Nat.{ℕ, ◌+◌, ◌<◌}
 use native.Mathlib.Nat.{le_refl}
@@ -13,12 +14,11 @@ use Rattle.table.specs.declared.sought.Sought.{Sought}
 use Rattle.table.specs.Sought.{live_as, is_at, search_from_of, fault_of}
 use Rattle.table.specs.First.{first_from}
 use Rattle.table.specs.Table.{find_from, held_in, calls_sound}
-use Rattle.table.specs.declared.choice.Spot.{Spot}
 use Rattle.table.proofs.Live.{finds_live}
 use Rattle.table.proofs.Along.{one_more, dropped}
 
 -- a record is found exactly if there is one
-one_held : (t : Bool) (i : ℕ) (r : Spot) (s : Bool) → is_at r ≡ s → is_at (cond t (Spot.At i) r) ≡ t || s
+one_held : (t : Bool) (i : ℕ) (r : Option ℕ) (s : Bool) → is_at r ≡ s → is_at (cond t (Some i) r) ≡ t || s
 one_held true i r s e = refl
 one_held false i r s e = e
 
@@ -61,20 +61,20 @@ goes_on false y h = absurd h
 
 -- What a turn answers, t, where the record at i is c and the search for its later twin, from j on, gives r.
 -- there: it is at fault. onward: it is not.
-said : (l : List Call) (i : ℕ) {c : Call} {j : ℕ} {r : Spot} {t : Bool} → c ≡ get_or l i fresh_call
+said : (l : List Call) (i : ℕ) {c : Call} {j : ℕ} {r : Option ℕ} {t : Bool} → c ≡ get_or l i fresh_call
     → j ≡ search_from_of c (i + 1) (length l) → r ≡ first_from (drop j l) j (Sought.Live c.reference) → t ≡ fault_of c r
     → t ≡ not (alone_at l i)
 said l i {c} ec ej er et =
     et ∙ ap (fault_of c) (er ∙ ap (λ (m : ℕ). first_from (drop m l) m (Sought.Live c.reference)) ej) ∙ fault_says l c i
     ∙ ap (λ (d : Call). not (sound_of d && not (live_of d.phase && held_in (drop (i + 1) l) d.reference))) ec
 
-pub there : (l : List Call) (i : ℕ) → i < length l → {c : Call} {j : ℕ} {r : Spot} {t : Bool} → c ≡ get_or l i fresh_call
+pub there : (l : List Call) (i : ℕ) → i < length l → {c : Call} {j : ℕ} {r : Option ℕ} {t : Bool} → c ≡ get_or l i fresh_call
     → j ≡ search_from_of c (i + 1) (length l) → r ≡ first_from (drop j l) j (Sought.Live c.reference) → t ≡ fault_of c r → t ≡ true
     → false ≡ calls_sound (drop i l)
 there l i h ec ej er et at =
     sym (sounds l i h ∙ stops (alone_at l i) (calls_sound (drop (i + 1) l)) (subst Holds (sym at ∙ said l i ec ej er et) tt))
 
-pub onward : (l : List Call) (i : ℕ) → i < length l → {c : Call} {j : ℕ} {r : Spot} {t : Bool} → c ≡ get_or l i fresh_call
+pub onward : (l : List Call) (i : ℕ) → i < length l → {c : Call} {j : ℕ} {r : Option ℕ} {t : Bool} → c ≡ get_or l i fresh_call
     → j ≡ search_from_of c (i + 1) (length l) → r ≡ first_from (drop j l) j (Sought.Live c.reference) → t ≡ fault_of c r → t ≡ false
     → calls_sound (drop i l) ≡ calls_sound (drop (i + 1) l)
 onward l i h ec ej er et at =

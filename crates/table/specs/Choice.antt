@@ -1,13 +1,12 @@
 -- Numbers 21 to 25: "25 comes first of 11 to 25; then the table gives 24, 22, 21 for SETUP and 23 for other events;
 -- then the call".
+use Rattle.std.specs.Prelude.{Option, Some, None, Result, Ok, Err}
 use Rattle.std.specs.Prelude.{ℕ, Bool, true, false, cond, ◌&&◌, List}
 use Rattle.rights.specs.Rights.{rights_fit_of, reference_fits_of}
 use Rattle.answer.specs.declared.Answer.{Answer}
 use Rattle.event.specs.declared.Event.{Event}
 use Rattle.table.specs.declared.verdict.Verdict.{Verdict}
-use Rattle.table.specs.declared.choice.Choice.{Choice}
 use Rattle.table.specs.declared.choice.Wanted.{Wanted}
-use Rattle.table.specs.declared.choice.Spot.{Spot}
 use Rattle.call.specs.declared.Call.{Call}
 use Rattle.table.specs.Table.{table_sound, find_from, place_from}
 
@@ -48,21 +47,21 @@ abbrev pub setup_ranged_of : Event → Bool
 setup_ranged_of e = in_range (wanted_of e)
 
 -- "SETUP, reference held by a live call", then "SETUP, no free place"
-abbrev pub new_place_of : Spot → Spot → Choice
-new_place_of (Spot.At i) free = Choice.Refused Verdict.Held
-new_place_of Spot.Nothing (Spot.At j) = Choice.At j
-new_place_of Spot.Nothing Spot.Nothing = Choice.Refused Verdict.NoPlace
+abbrev pub new_place_of : Option ℕ → Option ℕ → Result ℕ Verdict
+new_place_of (Some i) free = Err Verdict.Held
+new_place_of None (Some j) = Ok j
+new_place_of None None = Err Verdict.NoPlace
 
 -- "other event, no live call of that reference"
-abbrev pub old_place_of : Spot → Choice
-old_place_of (Spot.At i) = Choice.At i
-old_place_of Spot.Nothing = Choice.Refused Verdict.NoCall
+abbrev pub old_place_of : Option ℕ → Result ℕ Verdict
+old_place_of (Some i) = Ok i
+old_place_of None = Err Verdict.NoCall
 
-unfoldable pub choose_of : Bool → Wanted → Spot → Spot → Choice
+unfoldable pub choose_of : Bool → Wanted → Option ℕ → Option ℕ → Result ℕ Verdict
 choose_of whole w held free =
     cond whole
-    (cond (is_new w) (cond (in_range w) (new_place_of held free) (Choice.Refused (Verdict.Heard Answer.OutOfRange))) (old_place_of held))
-    (Choice.Refused (Verdict.Heard Answer.Unsound))
+    (cond (is_new w) (cond (in_range w) (new_place_of held free) (Err (Verdict.Heard Answer.OutOfRange))) (old_place_of held))
+    (Err (Verdict.Heard Answer.Unsound))
 
-unfoldable pub chosen_of : List Call → ℕ → Event → Choice
+unfoldable pub chosen_of : List Call → ℕ → Event → Result ℕ Verdict
 chosen_of t n e = choose_of (table_sound t) (wanted_of e) (find_from t 0 (meant_reference_of n e)) (place_from t 0)

@@ -1,9 +1,9 @@
 -- The table looked through: the live record of a reference, the lowest free place, and number 25.
+use Rattle.std.specs.Prelude.{Option, Some, None}
 use Rattle.std.specs.Prelude.{ℕ, ◌+◌, Bool, true, false, cond, not, ◌&&◌, ◌||◌, List, [], ◌∷◌, leb, length}
 use Rattle.call.specs.declared.Call.{Call}
 use Rattle.call.specs.Sound.{sound_of}
 use Rattle.phases.specs.Phase.{live_of}
-use Rattle.table.specs.declared.choice.Spot.{Spot}
 use Rattle.table.specs.Sought.{live_as, free_of}
 
 -- "a lent table of at most 32 records"
@@ -11,14 +11,14 @@ abbrev pub greatest_table : ℕ
 greatest_table = 32
 
 -- the first live record of the reference n, where the first record has the place i
-abbrev pub find_from : List Call → ℕ → ℕ → Spot
-find_from [] i n = Spot.Nothing
-find_from (c ∷ cs) i n = cond (live_as c n) (Spot.At i) (find_from cs (i + 1) n)
+abbrev pub find_from : List Call → ℕ → ℕ → Option ℕ
+find_from [] i n = None
+find_from (c ∷ cs) i n = cond (live_as c n) (Some i) (find_from cs (i + 1) n)
 
 -- "SETUP takes the lowest free"
-abbrev pub place_from : List Call → ℕ → Spot
-place_from [] i = Spot.Nothing
-place_from (c ∷ cs) i = cond (free_of c) (Spot.At i) (place_from cs (i + 1))
+abbrev pub place_from : List Call → ℕ → Option ℕ
+place_from [] i = None
+place_from (c ∷ cs) i = cond (free_of c) (Some i) (place_from cs (i + 1))
 
 -- a live record of the reference n is among them
 abbrev pub held_in : List Call → ℕ → Bool

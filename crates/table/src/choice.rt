@@ -7,19 +7,6 @@ use answer::Answer;
 use event::Event;
 use rights::{reference_fits, rights_fit};
 
-// The place of a record, or that there is none.
-#[derive(Clone, Copy)]
-pub enum Spot {
-    At(usize),
-    Nothing,
-}
-
-#[derive(Clone, Copy)]
-pub enum Choice {
-    At(usize),
-    Refused(Verdict),
-}
-
 // What an event wants of the table: SETUP a new place, under its own reference, with reference and rights in range or
 // not; any other event the place of a call that is there.
 #[derive(Clone, Copy)]
@@ -62,30 +49,35 @@ pub(crate) fn opens(wanted: Wanted) -> bool
 }
 
 // A SETUP in range: 22, 21, or the lowest free place.
-fn new_place(held: Spot, free: Spot) -> Choice
+fn new_place(held: Option<usize>, free: Option<usize>) -> Result<usize, Verdict>
     ensures { result ≡ new_place_of held free }
 {
     match held {
-        Spot::At(i) => Choice::Refused(Verdict::Held),
-        Spot::Nothing => match free {
-            Spot::At(i) => Choice::At(i),
-            Spot::Nothing => Choice::Refused(Verdict::NoPlace),
+        Some(i) => Err(Verdict::Held),
+        None => match free {
+            Some(i) => Ok(i),
+            None => Err(Verdict::NoPlace),
         },
     }
 }
 
 // Any other event: 23, or the live call's place.
-fn old_place(held: Spot) -> Choice
+fn old_place(held: Option<usize>) -> Result<usize, Verdict>
     ensures { result ≡ old_place_of held }
 {
     match held {
-        Spot::At(i) => Choice::At(i),
-        Spot::Nothing => Choice::Refused(Verdict::NoCall),
+        Some(i) => Ok(i),
+        None => Err(Verdict::NoCall),
     }
 }
 
 #[tactic(auto, unfolding(crate::specs::Choice::choose_of))]
-pub(crate) fn choose(whole: bool, wanted: Wanted, held: Spot, free: Spot) -> Choice
+pub(crate) fn choose(
+    whole: bool,
+    wanted: Wanted,
+    held: Option<usize>,
+    free: Option<usize>,
+) -> Result<usize, Verdict>
     ensures { result ≡ choose_of whole wanted held free }
 {
     if whole {
@@ -94,12 +86,12 @@ pub(crate) fn choose(whole: bool, wanted: Wanted, held: Spot, free: Spot) -> Cho
                 if ranged {
                     new_place(held, free)
                 } else {
-                    Choice::Refused(Verdict::Heard(Answer::OutOfRange))
+                    Err(Verdict::Heard(Answer::OutOfRange))
                 }
             }
             Wanted::Old => old_place(held),
         }
     } else {
-        Choice::Refused(Verdict::Heard(Answer::Unsound))
+        Err(Verdict::Heard(Answer::Unsound))
     }
 }

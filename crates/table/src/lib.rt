@@ -7,7 +7,6 @@ ghost use Rattle.call.specs.Sound.{fresh_call};
 ghost use Rattle.table.specs.First.{first_from};
 ghost use Rattle.table.specs.Table.{find_from, place_from, calls_sound, table_sound};
 
-use crate::choice::Spot;
 use crate::sought::{Sought, at_fault, later, meets};
 use call::Call;
 
@@ -34,22 +33,22 @@ pub(crate) fn call_at(t: &[Call], i: usize) -> Call
 }
 
 // The first record from a place on that meets what is sought.
-fn first_from(t: &[Call], start: usize, sought: Sought) -> Spot
+fn first_from(t: &[Call], start: usize, sought: Sought) -> Option<usize>
     ensures { result ≡ first_from (drop start t.now) start sought }
 {
     let mut i: usize = start;
     while i < t.len() {
         let c = call_at(t, i);
         if meets(c, sought) {
-            return Spot::At(i);
+            return Some(i);
         }
         i += 1;
     }
-    Spot::Nothing
+    None
 }
 
 // The first live record of a reference.
-pub(crate) fn find(t: &[Call], reference: u16) -> Spot
+pub(crate) fn find(t: &[Call], reference: u16) -> Option<usize>
     ensures { result ≡ find_from t.now 0 reference }
 {
     let f = first_from(t, 0, Sought::Live(reference));
@@ -57,7 +56,7 @@ pub(crate) fn find(t: &[Call], reference: u16) -> Spot
 }
 
 // The lowest free place.
-pub(crate) fn place(t: &[Call]) -> Spot
+pub(crate) fn place(t: &[Call]) -> Option<usize>
     ensures { result ≡ place_from t.now 0 }
 {
     let f = first_from(t, 0, Sought::Free);

@@ -2,7 +2,6 @@
 ghost use Rattle.std.specs.Prelude.{◌≡◌};
 ghost use Rattle.table.specs.Sought.{meets_of, is_at, fault_of, search_from_of};
 
-use crate::choice::Spot;
 use call::Call;
 
 // What a table is looked through for: a free place, or the live record of a reference.
@@ -21,18 +20,18 @@ pub(crate) fn meets(c: Call, sought: Sought) -> bool
     }
 }
 
-fn is_at(f: Spot) -> bool
+fn is_at(f: Option<usize>) -> bool
     ensures { result ≡ is_at f }
 {
     match f {
-        Spot::At(i) => true,
-        Spot::Nothing => false,
+        Some(i) => true,
+        None => false,
     }
 }
 
 // f: where a later live record has the reference of c.
 #[tactic(auto, unfolding(crate::specs::Sought::fault_of))]
-pub(crate) fn at_fault(c: Call, f: Spot) -> bool
+pub(crate) fn at_fault(c: Call, f: Option<usize>) -> bool
     ensures { result ≡ fault_of c f }
 {
     if c.sound() { is_at(f) } else { true }

@@ -4,26 +4,27 @@ ghost use Rattle.table.specs.Halves.{look_of, committed};
 ghost use Rattle.table.specs.Step.{step_outcome, step_table};
 ghost use Rattle.table.specs.Choice.{chosen_of};
 
-use crate::choice::{Choice, choose, reference_of, wants};
-use crate::plan::{Change, Looked, barred, met, plans, put_of, record, row, told};
+use crate::choice::{choose, reference_of, wants};
+use crate::plan::{Seat, barred, met, plans, put_of, record, row, told};
 use crate::settle::Outcome;
+use crate::verdict::Verdict;
 use crate::{call_at, find, place, sound};
 use call::Call;
 use event::Event;
 
 // What the table shows of an event.
 #[tactic(auto, unfolding(crate::specs::Halves::look_of))]
-pub fn look(t: &[Call], reference: u16, event: Event) -> Looked
+pub fn look(t: &[Call], reference: u16, event: Event) -> Result<Seat, Verdict>
     ensures { result ≡ look_of t.now reference event }
 {
     let choice = chosen(t, reference, event);
     match choice {
-        Choice::At(i) => {
+        Ok(i) => {
             let c = call_at(t, i);
             let l = met(i, c);
             l
         }
-        Choice::Refused(v) => {
+        Err(v) => {
             let l = barred(v);
             l
         }
@@ -31,7 +32,7 @@ pub fn look(t: &[Call], reference: u16, event: Event) -> Looked
 }
 
 // Puts a record at its place, or leaves the table as it is.
-pub fn commit(t: &mut [Call], p: Change)
+pub fn commit(t: &mut [Call], p: Option<Seat>)
     ensures { t.new ≡ committed t.old p }
 {
     let c = record(p);
@@ -55,7 +56,7 @@ pub fn step(t: &mut [Call], reference: u16, event: Event, element: &[u8]) -> Out
 
 // What the table says of an event.
 #[tactic(auto, unfolding(crate::specs::Choice::chosen_of))]
-fn chosen(t: &[Call], reference: u16, event: Event) -> Choice
+fn chosen(t: &[Call], reference: u16, event: Event) -> Result<usize, Verdict>
     ensures { result ≡ chosen_of t.now reference event }
 {
     let wanted = wants(event);

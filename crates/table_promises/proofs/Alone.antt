@@ -1,4 +1,5 @@
 -- One reference's answers in a run are those of a lone run, which never looks at a table.
+use Rattle.std.specs.Prelude.{Result, Ok, Err}
 use Prim.Native.Nat.{ℕ}
 use mathlib.Core.Bool.{Bool, true, false, cond}
 use mathlib.Core.List.{List, [], ◌∷◌}
@@ -12,7 +13,6 @@ use Rattle.call.specs.declared.Call.{Call}
 use Rattle.event.specs.declared.Event.{Event}
 use Rattle.call.specs.Sound.{fresh_call}
 use Rattle.call.specs.Step.{step_of}
-use Rattle.table.specs.declared.choice.Choice.{Choice}
 use Rattle.table.specs.declared.verdict.Verdict.{Verdict}
 use Rattle.table.specs.declared.settle.Outcome.{Outcome}
 use Rattle.table.specs.Sought.{live_as}
@@ -29,25 +29,25 @@ use Rattle.table_promises.proofs.AloneKept.{opens_in}
 use Rattle.table_promises.proofs.AloneTable.{Chosen, out, held, full, new, none, old, chosen, keeps, held_if_found, placed_own, placed_new, placed_old, step_sound, step_other, fresh_nobody, fresh_sound}
 
 -- ---- the lone run: c is the record of the reference, a fresh one where there is no live call
-abbrev lone_choice : (opens ranged live met : Bool) → Choice
-lone_choice true true true met = Choice.Refused Verdict.Held
-lone_choice true true false true = Choice.Refused Verdict.NoPlace
-lone_choice true true false false = Choice.At 0
-lone_choice true false live met = Choice.Refused (Verdict.Heard Answer.OutOfRange)
-lone_choice false ranged true met = Choice.At 0
-lone_choice false ranged false met = Choice.Refused Verdict.NoCall
+abbrev lone_choice : (opens ranged live met : Bool) → Result ℕ Verdict
+lone_choice true true true met = Err Verdict.Held
+lone_choice true true false true = Err Verdict.NoPlace
+lone_choice true true false false = Ok 0
+lone_choice true false live met = Err (Verdict.Heard Answer.OutOfRange)
+lone_choice false ranged true met = Ok 0
+lone_choice false ranged false met = Err Verdict.NoCall
 
 -- where the event goes, or the number that the table gives; met: a SETUP met 21
-abbrev lone_at : ℕ → Call → Event → Bool → Choice
+abbrev lone_at : ℕ → Call → Event → Bool → Result ℕ Verdict
 lone_at n c e met = lone_choice (opens_of e) (setup_ranged_of e) (live_as c n) met
 
-abbrev lone_outcome : Call → Event → List ℕ → Choice → Outcome
-lone_outcome c e l (Choice.At i) = (settled_of c e l).outcome
-lone_outcome c e l (Choice.Refused v) = table_refusal_of v
+abbrev lone_outcome : Call → Event → List ℕ → Result ℕ Verdict → Outcome
+lone_outcome c e l (Ok i) = (settled_of c e l).outcome
+lone_outcome c e l (Err v) = table_refusal_of v
 
-abbrev lone_next : ℕ → Call → Event → List ℕ → Choice → Call
-lone_next n c e l (Choice.At i) = keeps n (settled_of c e l).call
-lone_next n c e l (Choice.Refused v) = c
+abbrev lone_next : ℕ → Call → Event → List ℕ → Result ℕ Verdict → Call
+lone_next n c e l (Ok i) = keeps n (settled_of c e l).call
+lone_next n c e l (Err v) = c
 
 abbrev first : List Bool → Bool
 first [] = false
@@ -86,7 +86,7 @@ abbrev Flag : Event → Outcome → Bool → Type 0
 Flag e x b = opens_of e ≡ true → b ≡ eqb (verdict_number x.verdict) 21
 
 -- a step at the table is the lone step: its answer, and the record afterwards
-record Agrees (t : List Call) (n : ℕ) (e : Event) (l : List ℕ) (b : Bool) (k : Choice) : Type 0 where
+record Agrees (t : List Call) (n : ℕ) (e : Event) (l : List ℕ) (b : Bool) (k : Result ℕ Verdict) : Type 0 where
   outcome : outcome_at t k e l ≡ lone_outcome (held_call t n) e l (lone_at n (held_call t n) e b)
   next : held_call (table_at t k e l) n ≡ lone_next n (held_call t n) e l (lone_at n (held_call t n) e b)
 
@@ -95,24 +95,24 @@ module _ (t : List Call) (m : ℕ) (e : Event) (l : List ℕ) (s : table_sound t
   own = meant_reference_of m e
 
   -- the same refusal
-  refuses : (b : Bool) (v : Verdict) → lone_at own (held_call t own) e b ≡ Choice.Refused v → Agrees t own e l b (Choice.Refused v)
+  refuses : (b : Bool) (v : Verdict) → lone_at own (held_call t own) e b ≡ Err v → Agrees t own e l b (Err v)
   refuses b v h = record { outcome = rw h; next = rw h }
 
-  agrees : (b : Bool) (k : Choice) → Chosen t own e k → Flag e (outcome_at t k e l) b → Agrees t own e l b k
+  agrees : (b : Bool) (k : Result ℕ Verdict) → Chosen t own e k → Flag e (outcome_at t k e l) b → Agrees t own e l b k
   unfolding table_refusal_of
   agrees b k (out eo ef) g = refuses b _ (rw (eo, ef))
   agrees b k (held eo ef i eh) g = refuses b _ (rw (eo, ef, held_if_found t own _ eh))
   agrees b k (full eo ef eh ep) g = refuses b _ (rw (eo, ef, held_if_found t own _ eh, g eo))
   agrees b k (none eo eh) g = refuses b _ (rw (eo, held_if_found t own _ eh))
   agrees b k (new eo ef eh i ep) g =
-      let h : lone_at own (held_call t own) e b ≡ Choice.At 0 = rw (eo, ef, held_if_found t own _ eh, g eo, settled_not_full (get_or t i fresh_call) e l) in
+      let h : lone_at own (held_call t own) e b ≡ Ok 0 = rw (eo, ef, held_if_found t own _ eh, g eo, settled_not_full (get_or t i fresh_call) e l) in
       let w = (opens_in (get_or t i fresh_call) m e l eo ef).whatever (held_call t own) in
       record {
         outcome = rw h (ap (λ x. x.outcome) w);
         next = rw h (placed_own t own i _ (placed_new t m e l s i eo ef eh ep) ∙ ap (λ x. keeps own x.call) w);
       }
   agrees b k (old eo i eh) g =
-      let h : lone_at own (held_call t own) e b ≡ Choice.At 0 = rw (eo, held_if_found t own _ eh) in
+      let h : lone_at own (held_call t own) e b ≡ Ok 0 = rw (eo, held_if_found t own _ eh) in
       let w = found_call t i own eh in
       record {
         outcome = rw h (ap (λ c. (settled_of c e l).outcome) w);

@@ -1,10 +1,11 @@
 -- A step keeps the reference of a call, and its fields in range.
+use Rattle.services.specs.declared.ByService.{ByService}
+use Rattle.services.specs.declared.Request.{Request}
 use Prim.Native.Nat.{ℕ}
 use mathlib.Core.List.{List}
 use mathlib.Core.Bool.{true, false, ◌&&◌}
 use mathlib.Core.Path.{◌≡◌, refl, ◌∙◌, ap}
 use Rattle.rights.specs.declared.Rights.{Rights}
-use Rattle.services.specs.declared.Requests.{Requests}
 use Rattle.call.specs.declared.Call.{Call}
 use Rattle.event.specs.declared.Event.{Event}
 use Rattle.user_element.specs.Element.{seen_of}
@@ -37,7 +38,7 @@ pub record Opens (c : Call) (m : ℕ) (e : Event) (l : List ℕ) : Type 0 where
   pub fields : InRangeCall (settled_of c e l).call
   pub whatever : (d : Call) → settled_of c e l ≡ settled_of d e l
 
-module _ (c : Call) (m reference : ℕ) (rights : Rights) (q : Requests) (l : List ℕ) where
+module _ (c : Call) (m reference : ℕ) (rights : Rights) (q : ByService Request) (l : List ℕ) where
   filled_reference : (proceeds_of reference rights q (seen_of l rights.limit)).call.reference ≡ reference
   unfolding proceeds_of
   filled_reference = refl
@@ -62,7 +63,7 @@ own_reference n (Wanted.New own ranged) e = never refl e
 own_reference n Wanted.Old e = refl
 
 -- what holds of every SETUP holds of an event that opens a call
-pub of_setup : (P : Event → Type 0) → ((reference : ℕ) (rights : Rights) (q : Requests) → P (Event.Setup reference rights q)) → (e : Event) → opens_of e ≡ true → P e
+pub of_setup : (P : Event → Type 0) → ((reference : ℕ) (rights : Rights) (q : ByService Request) → P (Event.Setup reference rights q)) → (e : Event) → opens_of e ≡ true → P e
 of_setup P h (Event.Setup reference rights q) o = h reference rights q
 of_setup P h (Event.Alerting answers) o = never o refl
 of_setup P h (Event.Connect answers) o = never o refl

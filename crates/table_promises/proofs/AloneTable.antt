@@ -1,4 +1,5 @@
 -- What a step makes of the table, seen from each reference.
+use Rattle.std.specs.Prelude.{Option, Some, None, Result, Ok, Err}
 use Prim.Native.Nat.{ℕ, zero, suc, ◌<◌}
 use native.Mathlib.Nat.{not-suc-le-zero, le_of_suc-le-suc}
 use native.Mathlib.Omega.{arith}
@@ -15,9 +16,7 @@ use Rattle.phases.specs.Phase.{live_of}
 use Rattle.call.specs.declared.Call.{Call}
 use Rattle.event.specs.declared.Event.{Event}
 use Rattle.call.specs.Sound.{fresh_call}
-use Rattle.table.specs.declared.choice.Choice.{Choice}
 use Rattle.table.specs.declared.verdict.Verdict.{Verdict}
-use Rattle.table.specs.declared.choice.Spot.{Spot}
 use Rattle.table.specs.Sought.{live_as, is_at}
 use Rattle.table.specs.Table.{find_from, place_from, held_in, table_sound}
 use Rattle.table.specs.Choice.{meant_reference_of, opens_of, setup_ranged_of, new_place_of, old_place_of, choose_of, chosen_of}
@@ -50,7 +49,7 @@ held_live : (t : List Call) (n : ℕ) → live_as (held_call t n) n ≡ held_in 
 held_live [] n = fresh_not n
 held_live (c ∷ t) n = live_cond n (live_as c n) (held_in t n) c (held_call t n) refl (held_live t n)
 
-pub held_if_found : (t : List Call) (n : ℕ) (h : Spot) → find_from t 0 n ≡ h → live_as (held_call t n) n ≡ is_at h
+pub held_if_found : (t : List Call) (n : ℕ) (h : Option ℕ) → find_from t 0 n ≡ h → live_as (held_call t n) n ≡ is_at h
 held_if_found t n h e = held_live t n ∙ sym (at_held t 0 n) ∙ ap is_at e
 
 -- a live record stands within the table
@@ -79,15 +78,15 @@ apart : (t : List Call) (i j n : ℕ) (b : Bool) → ltb i j ≡ b → table_sou
 apart t i j n true e s d h k = not_faulty t s (twins i j n (ltb-true i j e) h k)
 apart t i j n false e s d h k = let w = ltb-false i j e in not_faulty t s (twins j i n (let v : j < i = omega arith in v) k h)
 
-nobody_found : (t : List Call) (n : ℕ) → find_from t 0 n ≡ Spot.Nothing → Nobody t n
+nobody_found : (t : List Call) (n : ℕ) → find_from t 0 n ≡ None → Nobody t n
 nobody_found t n e j = no_at t j n (λ h. not_found t n e (j, h))
 
-module _ (t : List Call) (n i : ℕ) (s : table_sound t ≡ true) (e : find_from t 0 n ≡ Spot.At i) where
+module _ (t : List Call) (n i : ℕ) (s : table_sound t ≡ true) (e : find_from t 0 n ≡ Some i) where
   only_found : Only t i n
   only_found j d = no_at t j n (λ h. apart t i j n (ltb i j) refl s d (found_live t i n e) h)
 
 -- the place that a SETUP takes is not live
-free_at : (t : List Call) (i : ℕ) → place_from t 0 ≡ Spot.At i → live_of (get_or t i fresh_call).phase ≡ false
+free_at : (t : List Call) (i : ℕ) → place_from t 0 ≡ Some i → live_of (get_or t i fresh_call).phase ≡ false
 free_at t i e = not_so _ (λ h. not_free _ h (found_lowest t i e).free)
 
 -- ---- one record put into the table
@@ -166,22 +165,22 @@ sound_if t true e h = e
 sound_if t false e h = absurd (h (is_faulty t e))
 
 -- ---- what is chosen
-pub data Chosen (t : List Call) (n : ℕ) (e : Event) : Choice → Type 0 where
-  out : opens_of e ≡ true → setup_ranged_of e ≡ false → Chosen t n e (Choice.Refused (Verdict.Heard Answer.OutOfRange))
-  held : opens_of e ≡ true → setup_ranged_of e ≡ true → (i : ℕ) → find_from t 0 n ≡ Spot.At i → Chosen t n e (Choice.Refused Verdict.Held)
-  full : opens_of e ≡ true → setup_ranged_of e ≡ true → find_from t 0 n ≡ Spot.Nothing → place_from t 0 ≡ Spot.Nothing → Chosen t n e (Choice.Refused Verdict.NoPlace)
-  new : opens_of e ≡ true → setup_ranged_of e ≡ true → find_from t 0 n ≡ Spot.Nothing → (i : ℕ) → place_from t 0 ≡ Spot.At i → Chosen t n e (Choice.At i)
-  none : opens_of e ≡ false → find_from t 0 n ≡ Spot.Nothing → Chosen t n e (Choice.Refused Verdict.NoCall)
-  old : opens_of e ≡ false → (i : ℕ) → find_from t 0 n ≡ Spot.At i → Chosen t n e (Choice.At i)
+pub data Chosen (t : List Call) (n : ℕ) (e : Event) : Result ℕ Verdict → Type 0 where
+  out : opens_of e ≡ true → setup_ranged_of e ≡ false → Chosen t n e (Err (Verdict.Heard Answer.OutOfRange))
+  held : opens_of e ≡ true → setup_ranged_of e ≡ true → (i : ℕ) → find_from t 0 n ≡ Some i → Chosen t n e (Err Verdict.Held)
+  full : opens_of e ≡ true → setup_ranged_of e ≡ true → find_from t 0 n ≡ None → place_from t 0 ≡ None → Chosen t n e (Err Verdict.NoPlace)
+  new : opens_of e ≡ true → setup_ranged_of e ≡ true → find_from t 0 n ≡ None → (i : ℕ) → place_from t 0 ≡ Some i → Chosen t n e (Ok i)
+  none : opens_of e ≡ false → find_from t 0 n ≡ None → Chosen t n e (Err Verdict.NoCall)
+  old : opens_of e ≡ false → (i : ℕ) → find_from t 0 n ≡ Some i → Chosen t n e (Ok i)
 
-choices : (t : List Call) (n : ℕ) (e : Event) (o f : Bool) (h p : Spot) → opens_of e ≡ o → setup_ranged_of e ≡ f → find_from t 0 n ≡ h → place_from t 0 ≡ p
-    → Chosen t n e (cond o (cond f (new_place_of h p) (Choice.Refused (Verdict.Heard Answer.OutOfRange))) (old_place_of h))
+choices : (t : List Call) (n : ℕ) (e : Event) (o f : Bool) (h p : Option ℕ) → opens_of e ≡ o → setup_ranged_of e ≡ f → find_from t 0 n ≡ h → place_from t 0 ≡ p
+    → Chosen t n e (cond o (cond f (new_place_of h p) (Err (Verdict.Heard Answer.OutOfRange))) (old_place_of h))
 choices t n e true false h p eo ef eh ep = out eo ef
-choices t n e true true (Spot.At i) p eo ef eh ep = held eo ef i eh
-choices t n e true true Spot.Nothing Spot.Nothing eo ef eh ep = full eo ef eh ep
-choices t n e true true Spot.Nothing (Spot.At i) eo ef eh ep = new eo ef eh i ep
-choices t n e false f Spot.Nothing p eo ef eh ep = none eo eh
-choices t n e false f (Spot.At i) p eo ef eh ep = old eo i eh
+choices t n e true true (Some i) p eo ef eh ep = held eo ef i eh
+choices t n e true true None None eo ef eh ep = full eo ef eh ep
+choices t n e true true None (Some i) eo ef eh ep = new eo ef eh i ep
+choices t n e false f None p eo ef eh ep = none eo eh
+choices t n e false f (Some i) p eo ef eh ep = old eo i eh
 
 pub chosen : (t : List Call) (m : ℕ) (e : Event) → table_sound t ≡ true → Chosen t (meant_reference_of m e) e (chosen_of t m e)
 unfolding chosen_of choose_of
@@ -189,7 +188,7 @@ chosen t m e s = rw s (choices t (meant_reference_of m e) e (opens_of e) (setup_
 
 -- ---- one step
 module _ (t : List Call) (m : ℕ) (e : Event) (l : List ℕ) (s : table_sound t ≡ true) where
-  pub placed_new : (i : ℕ) → opens_of e ≡ true → setup_ranged_of e ≡ true → find_from t 0 (meant_reference_of m e) ≡ Spot.Nothing → place_from t 0 ≡ Spot.At i → Placed t (meant_reference_of m e) i (settled_of (get_or t i fresh_call) e l).call
+  pub placed_new : (i : ℕ) → opens_of e ≡ true → setup_ranged_of e ≡ true → find_from t 0 (meant_reference_of m e) ≡ None → place_from t 0 ≡ Some i → Placed t (meant_reference_of m e) i (settled_of (get_or t i fresh_call) e l).call
   placed_new i eo ef eh ep =
       let r = opens_in (get_or t i fresh_call) m e l eo ef in
       record {
@@ -200,7 +199,7 @@ module _ (t : List Call) (m : ℕ) (e : Event) (l : List ℕ) (s : table_sound t
         only = λ j _. nobody_found t (meant_reference_of m e) eh j;
       }
 
-  pub placed_old : (i : ℕ) → opens_of e ≡ false → find_from t 0 (meant_reference_of m e) ≡ Spot.At i → Placed t (meant_reference_of m e) i (settled_of (get_or t i fresh_call) e l).call
+  pub placed_old : (i : ℕ) → opens_of e ≡ false → find_from t 0 (meant_reference_of m e) ≡ Some i → Placed t (meant_reference_of m e) i (settled_of (get_or t i fresh_call) e l).call
   placed_old i eo eh =
       let n = meant_reference_of m e in
       let a = found_live t i n eh in
@@ -213,7 +212,7 @@ module _ (t : List Call) (m : ℕ) (e : Event) (l : List ℕ) (s : table_sound t
         only = only_found t n i s eh;
       }
 
-  sound_at : (k : Choice) → Chosen t (meant_reference_of m e) e k → Faulty (table_at t k e l) → ⊥
+  sound_at : (k : Result ℕ Verdict) → Chosen t (meant_reference_of m e) e k → Faulty (table_at t k e l) → ⊥
   sound_at k (out eo ef) = not_faulty t s
   sound_at k (held eo ef i eh) = not_faulty t s
   sound_at k (full eo ef eh ep) = not_faulty t s
@@ -225,7 +224,7 @@ module _ (t : List Call) (m : ℕ) (e : Event) (l : List ℕ) (s : table_sound t
   unfolding step_table
   step_sound = sound_if (step_table t m e l) _ refl (sound_at (chosen_of t m e) (chosen t m e s))
 
-  other_at : (n : ℕ) → (meant_reference_of m e ≡ n → ⊥) → (k : Choice) → Chosen t (meant_reference_of m e) e k → held_call (table_at t k e l) n ≡ held_call t n
+  other_at : (n : ℕ) → (meant_reference_of m e ≡ n → ⊥) → (k : Result ℕ Verdict) → Chosen t (meant_reference_of m e) e k → held_call (table_at t k e l) n ≡ held_call t n
   other_at n h k (out eo ef) = refl
   other_at n h k (held eo ef i eh) = refl
   other_at n h k (full eo ef eh ep) = refl

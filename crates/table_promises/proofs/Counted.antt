@@ -1,4 +1,5 @@
 -- The table's tests, and what the paper calls them: each says the other.
+use Rattle.std.specs.Prelude.{Some, None}
 use mathlib.Core.Path.{◌≡◌, refl, sym, ◌∙◌, ap, subst}
 use Prim.Native.Nat.{ℕ, zero, suc, ◌+◌, ◌<◌, ◌≤◌}
 use native.Mathlib.Nat.{not-suc-le-zero, le_of_suc-le-suc}
@@ -16,7 +17,6 @@ use Rattle.call.specs.Sound.{fresh_call, sound_of, fields_fit_of}
 use Rattle.table.specs.Sought.{live_as, is_at}
 use Rattle.table.specs.Table.{find_from, place_from, held_in, calls_sound, table_sound}
 use Rattle.table_promises.specs.Table.{Free, LiveAt, Held, Full, Faulty, over, twins, unsound, held_call, Lowest}
-use Rattle.table.specs.declared.choice.Spot.{Spot}
 use Rattle.logic.proofs.Tests.{both, and_true}
 use Rattle.call_promises.specs.Ranges.{InRangeCall}
 use Rattle.call_promises.proofs.Ranges.{fields_range}
@@ -79,27 +79,27 @@ held_at [] n i h = absurd (not-suc-le-zero h.within)
 held_at (c ∷ l) n zero h = or_left (live_as c n) (held_in l n) (live_first c l n h)
 held_at (c ∷ l) n (suc i) h = or_right (live_as c n) (held_in l n) (held_at l n i (nearer c l i n h))
 
-pub found_held : (l : List Call) (n i : ℕ) → find_from l 0 n ≡ Spot.At i → Held l n
+pub found_held : (l : List Call) (n i : ℕ) → find_from l 0 n ≡ Some i → Held l n
 found_held l n i e = is_held l n (sym (at_held l 0 n) ∙ ap is_at e)
 
-pub not_found : (l : List Call) (n : ℕ) → find_from l 0 n ≡ Spot.Nothing → Held l n → ⊥
+pub not_found : (l : List Call) (n : ℕ) → find_from l 0 n ≡ None → Held l n → ⊥
 not_found l n e h = true≢false (sym (held_at l n h.0 h.1) ∙ sym (at_held l 0 n) ∙ ap is_at e)
 
 -- ---- places
-one_full : (c : Call) (l : List Call) (i : ℕ) (t : Bool) → live_of c.phase ≡ t → cond (not t) (Spot.At i) (place_from l (i + 1)) ≡ Spot.Nothing → (place_from l (i + 1) ≡ Spot.Nothing → Full l) → Full (c ∷ l)
+one_full : (c : Call) (l : List Call) (i : ℕ) (t : Bool) → live_of c.phase ≡ t → cond (not t) (Some i) (place_from l (i + 1)) ≡ None → (place_from l (i + 1) ≡ None → Full l) → Full (c ∷ l)
 one_full c l i true e f k zero h = not_free c.phase e
 one_full c l i true e f k (suc j) h = k f j (le_of_suc-le-suc h)
 one_full c l i false e f k j h = absurd (true≢false (ap is_at f))
 
-pub no_place_lem : (l : List Call) (i : ℕ) → place_from l i ≡ Spot.Nothing → Full l
+pub no_place_lem : (l : List Call) (i : ℕ) → place_from l i ≡ None → Full l
 no_place_lem [] i e j h = absurd (not-suc-le-zero h)
 no_place_lem (c ∷ l) i e j h = one_full c l i (live_of c.phase) refl e (λ f. no_place_lem l (i + 1) f) j h
 
-not_full_more : (c : Call) (l : List Call) (i j : ℕ) (t : Bool) → live_of c.phase ≡ t → cond (not t) (Spot.At i) (place_from l (i + 1)) ≡ Spot.At j → Full (c ∷ l) → (place_from l (i + 1) ≡ Spot.At j → Full l → ⊥) → ⊥
+not_full_more : (c : Call) (l : List Call) (i j : ℕ) (t : Bool) → live_of c.phase ≡ t → cond (not t) (Some i) (place_from l (i + 1)) ≡ Some j → Full (c ∷ l) → (place_from l (i + 1) ≡ Some j → Full l → ⊥) → ⊥
 not_full_more c l i j true e f h k = k f (λ m w. h (suc m) (omega (arith, w)))
 not_full_more c l i j false e f h k = h 0 (omega arith) (is_free c.phase e)
 
-pub not_full : (l : List Call) (i j : ℕ) → place_from l i ≡ Spot.At j → Full l → ⊥
+pub not_full : (l : List Call) (i j : ℕ) → place_from l i ≡ Some j → Full l → ⊥
 not_full [] i j e h = true≢false (sym (ap is_at e))
 not_full (c ∷ l) i j e h = not_full_more c l i j (live_of c.phase) refl e h (λ f g. not_full l (i + 1) j f g)
 
@@ -176,31 +176,31 @@ unfolding table_sound
 is_faulty l e = faulty_cases l (leb (length l) 32) refl e
 
 -- ---- the record that is found
-record_more : (c : Call) (l : List Call) (i j n : ℕ) (t : Bool) → live_as c n ≡ t → cond t (Spot.At j) (find_from l (j + 1) n) ≡ Spot.At i
-    → (find_from l (j + 1) n ≡ Spot.At i → (m : ℕ) × (i ≡ j + 1 + m) × (get_or l m fresh_call ≡ held_call l n)) → (m : ℕ) × (i ≡ j + m) × (get_or (c ∷ l) m fresh_call ≡ cond t c (held_call l n))
+record_more : (c : Call) (l : List Call) (i j n : ℕ) (t : Bool) → live_as c n ≡ t → cond t (Some j) (find_from l (j + 1) n) ≡ Some i
+    → (find_from l (j + 1) n ≡ Some i → (m : ℕ) × (i ≡ j + 1 + m) × (get_or l m fresh_call ≡ held_call l n)) → (m : ℕ) × (i ≡ j + m) × (get_or (c ∷ l) m fresh_call ≡ cond t c (held_call l n))
 record_more c l i j n true et e k = (0, (let same : j ≡ i = same_found j i e in omega (arith, same)), refl)
 record_more c l i j n false et e k = let r : (m : ℕ) × (i ≡ j + 1 + m) × (get_or l m fresh_call ≡ held_call l n) = k e in (suc r.0, (let w : i ≡ j + 1 + r.0 = r.1 in omega (arith, w)), r.2)
 
-found_record : (l : List Call) (i j n : ℕ) → find_from l j n ≡ Spot.At i → (m : ℕ) × (i ≡ j + m) × (get_or l m fresh_call ≡ held_call l n)
+found_record : (l : List Call) (i j n : ℕ) → find_from l j n ≡ Some i → (m : ℕ) × (i ≡ j + m) × (get_or l m fresh_call ≡ held_call l n)
 found_record [] i j n e = absurd (true≢false (sym (ap is_at e)))
 found_record (c ∷ l) i j n e = record_more c l i j n (live_as c n) refl e (λ f. found_record l i (j + 1) n f)
 
-pub found_call : (l : List Call) (i n : ℕ) → find_from l 0 n ≡ Spot.At i → get_or l i fresh_call ≡ held_call l n
+pub found_call : (l : List Call) (i n : ℕ) → find_from l 0 n ≡ Some i → get_or l i fresh_call ≡ held_call l n
 found_call l i n e =
     let r : (m : ℕ) × (i ≡ 0 + m) × (get_or l m fresh_call ≡ held_call l n) = found_record l i 0 n e in
     let same : i ≡ r.0 = (let w : i ≡ 0 + r.0 = r.1 in omega (arith, w)) in ap (λ (m : ℕ). get_or l m fresh_call) same ∙ r.2
 
 -- ---- what stands at the place that is found, and at the lowest free one
-live_more : (c : Call) (l : List Call) (i j n : ℕ) (t : Bool) → live_as c n ≡ t → cond t (Spot.At j) (find_from l (j + 1) n) ≡ Spot.At i
-    → (find_from l (j + 1) n ≡ Spot.At i → (m : ℕ) × (i ≡ j + 1 + m) × LiveAt l m n) → (m : ℕ) × (i ≡ j + m) × LiveAt (c ∷ l) m n
+live_more : (c : Call) (l : List Call) (i j n : ℕ) (t : Bool) → live_as c n ≡ t → cond t (Some j) (find_from l (j + 1) n) ≡ Some i
+    → (find_from l (j + 1) n ≡ Some i → (m : ℕ) × (i ≡ j + 1 + m) × LiveAt l m n) → (m : ℕ) × (i ≡ j + m) × LiveAt (c ∷ l) m n
 live_more c l i j n true et e k = (0, (let same : j ≡ i = same_found j i e in omega (arith, same)), first_live c l n et)
 live_more c l i j n false et e k = let r : (m : ℕ) × (i ≡ j + 1 + m) × LiveAt l m n = k e in (suc r.0, (let w : i ≡ j + 1 + r.0 = r.1 in omega (arith, w)), further c l r.0 n r.2)
 
-live_found : (l : List Call) (i j n : ℕ) → find_from l j n ≡ Spot.At i → (m : ℕ) × (i ≡ j + m) × LiveAt l m n
+live_found : (l : List Call) (i j n : ℕ) → find_from l j n ≡ Some i → (m : ℕ) × (i ≡ j + m) × LiveAt l m n
 live_found [] i j n e = absurd (true≢false (sym (ap is_at e)))
 live_found (c ∷ l) i j n e = live_more c l i j n (live_as c n) refl e (λ f. live_found l i (j + 1) n f)
 
-pub found_live : (l : List Call) (i n : ℕ) → find_from l 0 n ≡ Spot.At i → LiveAt l i n
+pub found_live : (l : List Call) (i n : ℕ) → find_from l 0 n ≡ Some i → LiveAt l i n
 found_live l i n e =
     let r : (m : ℕ) × (i ≡ 0 + m) × LiveAt l m n = live_found l i 0 n e in
     let same : r.0 ≡ i = (let w : i ≡ 0 + r.0 = r.1 in omega (arith, w)) in subst (λ (m : ℕ). LiveAt l m n) same r.2
@@ -209,8 +209,8 @@ lower_more : (c : Call) (l : List Call) (m : ℕ) → (Free c.phase → ⊥) →
 lower_more c l m h k zero w = h
 lower_more c l m h k (suc j) w = k.lower j (le_of_suc-le-suc w)
 
-free_more : (c : Call) (l : List Call) (i j : ℕ) (t : Bool) → live_of c.phase ≡ t → cond (not t) (Spot.At j) (place_from l (j + 1)) ≡ Spot.At i
-    → (place_from l (j + 1) ≡ Spot.At i → (m : ℕ) × (i ≡ j + 1 + m) × Lowest l m) → (m : ℕ) × (i ≡ j + m) × Lowest (c ∷ l) m
+free_more : (c : Call) (l : List Call) (i j : ℕ) (t : Bool) → live_of c.phase ≡ t → cond (not t) (Some j) (place_from l (j + 1)) ≡ Some i
+    → (place_from l (j + 1) ≡ Some i → (m : ℕ) × (i ≡ j + 1 + m) × Lowest l m) → (m : ℕ) × (i ≡ j + m) × Lowest (c ∷ l) m
 free_more c l i j true et e k =
     let r : (m : ℕ) × (i ≡ j + 1 + m) × Lowest l m = k e in (
       suc r.0,
@@ -220,11 +220,11 @@ free_more c l i j true et e k =
 free_more c l i j false et e k =
     (0, (let same : j ≡ i = same_found j i e in omega (arith, same)), record { within = omega arith; free = is_free c.phase et; lower = λ m w. absurd (not-suc-le-zero w) })
 
-free_found : (l : List Call) (i j : ℕ) → place_from l j ≡ Spot.At i → (m : ℕ) × (i ≡ j + m) × Lowest l m
+free_found : (l : List Call) (i j : ℕ) → place_from l j ≡ Some i → (m : ℕ) × (i ≡ j + m) × Lowest l m
 free_found [] i j e = absurd (true≢false (sym (ap is_at e)))
 free_found (c ∷ l) i j e = free_more c l i j (live_of c.phase) refl e (λ f. free_found l i (j + 1) f)
 
-pub found_lowest : (l : List Call) (i : ℕ) → place_from l 0 ≡ Spot.At i → Lowest l i
+pub found_lowest : (l : List Call) (i : ℕ) → place_from l 0 ≡ Some i → Lowest l i
 found_lowest l i e =
     let r : (m : ℕ) × (i ≡ 0 + m) × Lowest l m = free_found l i 0 e in
     let same : r.0 ≡ i = (let w : i ≡ 0 + r.0 = r.1 in omega (arith, w)) in subst (Lowest l) same r.2

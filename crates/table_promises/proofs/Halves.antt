@@ -1,4 +1,6 @@
 -- look, plan and commit are a step, and what a plan does to another table.
+use Rattle.std.specs.Prelude.{Option, Some, None}
+use Rattle.table.specs.declared.plan.Seat.{Seat}
 use mathlib.Core.List.{List}
 use mathlib.Core.Path.{refl}
 use lib.ListN.{length-set}
@@ -14,7 +16,6 @@ use Rattle.setup_rules.specs.Requests.{first_standing_of, standings_of, lacks_of
 use Rattle.facility_rules.specs.Asking.{nobody_asks}
 use Rattle.call.specs.Reply.{bar_of, refused_of, heard_of}
 use Rattle.call.specs.Setup.{proceeds_of, setup_of}
-use Rattle.table.specs.declared.plan.Change.{Change}
 use Rattle.table.specs.Table.{table_sound}
 use Rattle.table.specs.Choice.{choose_of, chosen_of}
 use Rattle.table.specs.Halves.{look_of, committed}
@@ -26,10 +27,10 @@ use Rattle.table_promises.specs.Halves.{Halves, Puts, nowhere, somewhere, Stale,
 pub halves : Halves
 halves t n e element = record { outcome = plan_told t n e element; table = plan_put t n e element }
 
-puts : (s : List Call) (p : Change) → Puts s (committed s p) p
-puts s (Change.At i c) =
+puts : (s : List Call) (p : Option Seat) → Puts s (committed s p) p
+puts s (Some (record { place = i; call = c })) =
     somewhere (λ h. get_or-set_same s i c fresh_call h) (λ j n. get_or-set_other s i j c fresh_call n) (length-set s i c)
-puts s Change.Nothing = nowhere refl
+puts s None = nowhere refl
 
 pub stale : Stale
 stale t s n e element = puts s _

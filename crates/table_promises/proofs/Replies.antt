@@ -1,4 +1,5 @@
 -- What the table refuses is silent; all else is the reply of the call at the place that is chosen.
+use Rattle.std.specs.Prelude.{Option, Some, None, Result, Ok, Err}
 use Prim.Native.Nat.{ℕ}
 use mathlib.Core.Bool.{Bool, true, false, cond, ◌&&◌}
 use mathlib.Core.List.{List}
@@ -14,9 +15,7 @@ use Rattle.event.specs.declared.Event.{Event}
 use Rattle.call.specs.declared.reply.Reply.{Reply}
 use Rattle.call.specs.Sound.{fresh_call}
 use Rattle.call.specs.Step.{step_of}
-use Rattle.table.specs.declared.choice.Choice.{Choice}
 use Rattle.table.specs.declared.verdict.Verdict.{Verdict}
-use Rattle.table.specs.declared.choice.Spot.{Spot}
 use Rattle.table.specs.Choice.{wanted_of, meant_reference_of, opens_of, setup_ranged_of, choose_of, chosen_of}
 use Rattle.table.specs.Settle.{subject_of, record_kept_of, heard_outcome_of, table_refusal_of, settled_of}
 use Rattle.table.specs.Table.{table_sound, find_from, place_from}
@@ -32,17 +31,17 @@ use Rattle.table_promises.proofs.AloneTable.{Chosen, out, held, full, new, none,
 
 -- ---- what is chosen, and what the table refuses
 -- the table refuses exactly where no place is chosen
-data Decided (t : List Call) (n : ℕ) (e : Event) : Choice → Type 0 where
-  refuses : (v : Verdict) → TableRefuses t n e → Decided t n e (Choice.Refused v)
-  hears : (i : ℕ) → (TableRefuses t n e → ⊥) → Decided t n e (Choice.At i)
+data Decided (t : List Call) (n : ℕ) (e : Event) : Result ℕ Verdict → Type 0 where
+  refuses : (v : Verdict) → TableRefuses t n e → Decided t n e (Err v)
+  hears : (i : ℕ) → (TableRefuses t n e → ⊥) → Decided t n e (Ok i)
 
 module _ (t : List Call) (n : ℕ) (s : table_sound t ≡ true) where
-  enters : (i reference : ℕ) (rights : Rights) → (reference_fits_of reference && rights_fit_of rights) ≡ true → find_from t 0 reference ≡ Spot.Nothing → place_from t 0 ≡ Spot.At i → SetupBarred t reference rights → ⊥
+  enters : (i reference : ℕ) (rights : Rights) → (reference_fits_of reference && rights_fit_of rights) ≡ true → find_from t 0 reference ≡ None → place_from t 0 ≡ Some i → SetupBarred t reference rights → ⊥
   enters i reference rights ef eh ep (out_of_range h) = is_ranged reference rights ef h
   enters i reference rights ef eh ep (already_held h) = not_found t reference eh h
   enters i reference rights ef eh ep (no_place h) = not_full t 0 i ep h
 
-  opens_here : (i : ℕ) (e : Event) → opens_of e ≡ true → setup_ranged_of e ≡ true → find_from t 0 (meant_reference_of n e) ≡ Spot.Nothing → place_from t 0 ≡ Spot.At i → TableRefuses t n e → ⊥
+  opens_here : (i : ℕ) (e : Event) → opens_of e ≡ true → setup_ranged_of e ≡ true → find_from t 0 (meant_reference_of n e) ≡ None → place_from t 0 ≡ Some i → TableRefuses t n e → ⊥
   opens_here i e eo ef eh ep (faulty _ h) = not_faulty t s h
   opens_here i e eo ef eh ep (setup reference rights q h) = enters i reference rights ef eh ep h
   opens_here i e eo ef eh ep (other _ o h) = never eo o
@@ -54,10 +53,10 @@ module _ (t : List Call) (n : ℕ) (s : table_sound t ≡ true) where
 
 module _ (t : List Call) (n : ℕ) (e : Event) where
   -- an event that is no SETUP is looked for under the reference beside it
-  found_own : (h : Spot) → opens_of e ≡ false → find_from t 0 (meant_reference_of n e) ≡ h → find_from t 0 n ≡ h
+  found_own : (h : Option ℕ) → opens_of e ≡ false → find_from t 0 (meant_reference_of n e) ≡ h → find_from t 0 n ≡ h
   found_own h eo eh = ap (find_from t 0) (sym (own_reference n (wanted_of e) eo)) ∙ eh
 
-  decided_sound : table_sound t ≡ true → (k : Choice) → Chosen t (meant_reference_of n e) e k → Decided t n e k
+  decided_sound : table_sound t ≡ true → (k : Result ℕ Verdict) → Chosen t (meant_reference_of n e) e k → Decided t n e k
   decided_sound s k (out eo ef) =
       refuses _ (of_setup (λ e. setup_ranged_of e ≡ false → TableRefuses t n e) (λ reference rights q f. setup reference rights q (out_of_range (not_ranged reference rights f))) e eo ef)
   decided_sound s k (held eo ef i eh) =
@@ -79,7 +78,7 @@ unfolding record_kept_of
 kept_taken c r z = ap (λ (b : Bool). cond b r.call c) (changes_at r.answer 0 z)
 
 module _ (t : List Call) (n : ℕ) (e : Event) (l : List ℕ) where
-  own_at : (i : ℕ) → chosen_of t n e ≡ Choice.At i → Own t (table_at t (Choice.At i) e l) n e l (outcome_at t (Choice.At i) e l)
+  own_at : (i : ℕ) → chosen_of t n e ≡ Ok i → Own t (table_at t (Ok i) e l) n e l (outcome_at t (Ok i) e l)
   unfolding settled_of subject_of heard_outcome_of
   own_at i k =
       record {
@@ -94,17 +93,17 @@ module _ (t : List Call) (n : ℕ) (e : Event) (l : List ℕ) where
             };
       }
 
-  silent_at : (v : Verdict) → Silent (outcome_at t (Choice.Refused v) e l)
+  silent_at : (v : Verdict) → Silent (outcome_at t (Err v) e l)
   unfolding table_refusal_of
   silent_at v = record { note = refl; calling = refl; called = refl; carrier = refl }
 
-  replies_at : (k : Choice) → chosen_of t n e ≡ k → Decided t n e k →
+  replies_at : (k : Result ℕ Verdict) → chosen_of t n e ≡ k → Decided t n e k →
       (TableRefuses t n e → Silent (outcome_at t k e l)) × ((TableRefuses t n e → ⊥) → Own t (table_at t k e l) n e l (outcome_at t k e l))
   replies_at k c (refuses v r) = ((λ _. silent_at v), (λ h. absurd (h r)))
   replies_at k c (hears i h) = ((λ r. absurd (h r)), (λ _. own_at i c))
 
 -- what is answered at the table: nothing is said, or what the call itself replies
-told_at : (t : List Call) (n : ℕ) (e : Event) (l : List ℕ) (k : Choice) → chosen_of t n e ≡ k → Decided t n e k → Silent (outcome_at t k e l) ⊎ Own t (table_at t k e l) n e l (outcome_at t k e l)
+told_at : (t : List Call) (n : ℕ) (e : Event) (l : List ℕ) (k : Result ℕ Verdict) → chosen_of t n e ≡ k → Decided t n e k → Silent (outcome_at t k e l) ⊎ Own t (table_at t k e l) n e l (outcome_at t k e l)
 told_at t n e l k c (refuses v r) = inl (silent_at t n e l v)
 told_at t n e l k c (hears i h) = inr (own_at t n e l i c)
 

@@ -1,4 +1,7 @@
 -- The promises of the table, proved.
+use Rattle.std.specs.Prelude.{Option, Some, None, Result, Ok, Err}
+use Rattle.services.specs.declared.ByService.{ByService}
+use Rattle.services.specs.declared.Request.{Request}
 use mathlib.Core.Path.{◌≡◌, refl, sym, ◌∙◌, ap, subst}
 use Prim.Native.Nat.{ℕ, zero, suc}
 use mathlib.Core.Bool.{Bool, true, false, cond, ◌&&◌, ◌||◌, true≢false}
@@ -11,7 +14,6 @@ use lib.Seq.{get_or-set_other}
 use Rattle.logic.specs.First.{First}
 use Rattle.logic.proofs.Only.{exactly}
 use Rattle.rights.specs.declared.Rights.{Rights}
-use Rattle.services.specs.declared.Requests.{Requests}
 use Rattle.user_element.specs.Element.{seen_of}
 use Rattle.rights.specs.Rights.{rights_fit_of, reference_fits_of}
 use Rattle.answer.specs.declared.Answer.{Answer}
@@ -30,8 +32,6 @@ use Rattle.table.specs.Verdict.{verdict_number}
 use Rattle.table.specs.Settle.{subject_of, changes_of, record_kept_of, heard_outcome_of, table_refusal_of, settled_of}
 use Rattle.table.specs.Step.{outcome_at, table_at, step_outcome, step_table}
 use Rattle.table_promises.specs.Table.{held_call, SetsUp, setup, Other, table_rows, number_at, Table, RefusalsKeep, OneChanged, OnePlace, LiveAt, Lowest, Names, lowest, holding, Named, OneSpent, Fourteen}
-use Rattle.table.specs.declared.choice.Spot.{Spot}
-use Rattle.table.specs.declared.choice.Choice.{Choice}
 use Rattle.table.specs.declared.verdict.Verdict.{Verdict}
 use Rattle.call_promises.specs.Ranges.{ReferenceInRange, RightsInRange}
 use Rattle.call_promises.proofs.Ranges.{reference_range, rights_range}
@@ -42,11 +42,11 @@ use Rattle.table_promises.proofs.Within.{not_refused, same_chosen}
 use Rattle.table_promises.proofs.AloneKept.{of_setup, own_reference}
 
 -- ---- the choice, from what the table's tests say
-abbrev choice_of : (whole opening fits : Bool) (held free : Spot) → Choice
+abbrev choice_of : (whole opening fits : Bool) (held free : Option ℕ) → Result ℕ Verdict
 choice_of whole opening fits held free =
-    cond whole (cond opening (cond fits (new_place_of held free) (Choice.Refused (Verdict.Heard Answer.OutOfRange))) (old_place_of held)) (Choice.Refused (Verdict.Heard Answer.Unsound))
+    cond whole (cond opening (cond fits (new_place_of held free) (Err (Verdict.Heard Answer.OutOfRange))) (old_place_of held)) (Err (Verdict.Heard Answer.Unsound))
 
-number_is : (t : List Call) (n : ℕ) (e : Event) (l : List ℕ) (w o f : Bool) (h p : Spot) → table_sound t ≡ w → opens_of e ≡ o → setup_ranged_of e ≡ f → find_from t 0 (meant_reference_of n e) ≡ h → place_from t 0 ≡ p
+number_is : (t : List Call) (n : ℕ) (e : Event) (l : List ℕ) (w o f : Bool) (h p : Option ℕ) → table_sound t ≡ w → opens_of e ≡ o → setup_ranged_of e ≡ f → find_from t 0 (meant_reference_of n e) ≡ h → place_from t 0 ≡ p
     → number_at t n e l ≡ verdict_number (outcome_at t (choice_of w o f h p) e l).verdict
 unfolding step_outcome chosen_of choose_of
 number_is t n e l w o f h p ew eo ef eh ep = λ j. verdict_number (outcome_at t (choice_of (ew j) (eo j) (ef j) (eh j) (ep j)) e l).verdict
@@ -56,8 +56,8 @@ setup_taken : (f : Bool) (r s : Reply) → r.answer ≡ Answer.Taken → f ≡ t
 setup_taken true r s e h = ap number_of e
 setup_taken false r s e h = absurd (true≢false (sym h))
 
-setup_zero : (t : List Call) (i reference : ℕ) (rights : Rights) (q : Requests) (l : List ℕ) → (reference_fits_of reference && rights_fit_of rights) ≡ true
-    → verdict_number (outcome_at t (Choice.At i) (Event.Setup reference rights q) l).verdict ≡ 0
+setup_zero : (t : List Call) (i reference : ℕ) (rights : Rights) (q : ByService Request) (l : List ℕ) → (reference_fits_of reference && rights_fit_of rights) ≡ true
+    → verdict_number (outcome_at t (Ok i) (Event.Setup reference rights q) l).verdict ≡ 0
 unfolding settled_of heard_outcome_of subject_of setup_of heard_of bar_of sound_of fresh_call proceeds_of
 setup_zero t i reference rights q l e =
     setup_taken (reference_fits_of reference && rights_fit_of rights) (proceeds_of reference rights q (seen_of l rights.limit)) (refused_of fresh_call (cond (reference_fits_of reference && rights_fit_of rights) Answer.Taken Answer.OutOfRange) Note.Clear) refl e
@@ -69,23 +69,23 @@ pub is_ranged : (reference : ℕ) (rights : Rights) → (reference_fits_of refer
 is_ranged reference rights e h =
     let p : (reference_fits_of reference ≡ true) × (rights_fit_of rights ≡ true) = both (reference_fits_of reference) (rights_fit_of rights) e in h ((reference_range reference).so p.0, (rights_range rights).so p.1)
 
-un : {P : ℕ → Rights → Type 0} {reference : ℕ} {rights : Rights} {q : Requests} → (P reference rights → ⊥) → SetsUp P (Event.Setup reference rights q) → ⊥
+un : {P : ℕ → Rights → Type 0} {reference : ℕ} {rights : Rights} {q : ByService Request} → (P reference rights → ⊥) → SetsUp P (Event.Setup reference rights q) → ⊥
 un f (setup p) = f p
 
-setup_first : (t : List Call) (n reference : ℕ) (rights : Rights) (q : Requests) (l : List ℕ) (w f : Bool) (h p : Spot) → table_sound t ≡ w → (reference_fits_of reference && rights_fit_of rights) ≡ f → find_from t 0 reference ≡ h → place_from t 0 ≡ p
+setup_first : (t : List Call) (n reference : ℕ) (rights : Rights) (q : ByService Request) (l : List ℕ) (w f : Bool) (h p : Option ℕ) → table_sound t ≡ w → (reference_fits_of reference && rights_fit_of rights) ≡ f → find_from t 0 reference ≡ h → place_from t 0 ≡ p
     → First (table_rows t n (Event.Setup reference rights q) l) (verdict_number (outcome_at t (choice_of w true f h p) (Event.Setup reference rights q) l).verdict)
 unfolding table_refusal_of
 setup_first t n reference rights q l false f h p ew ef eh ep = inl (is_faulty t ew, refl)
 setup_first t n reference rights q l true false h p ew ef eh ep = inr (not_faulty t ew, inl (setup (not_ranged reference rights ef), refl))
-setup_first t n reference rights q l true true (Spot.At i) p ew ef eh ep =
+setup_first t n reference rights q l true true (Some i) p ew ef eh ep =
     inr (not_faulty t ew, inr (un (is_ranged reference rights ef), inl (setup (found_held t reference i eh), refl)))
-setup_first t n reference rights q l true true Spot.Nothing Spot.Nothing ew ef eh ep =
+setup_first t n reference rights q l true true None None ew ef eh ep =
     inr (not_faulty t ew, inr (un (is_ranged reference rights ef), inr (un (not_found t reference eh), inl (setup (no_place_lem t 0 ep), refl))))
-setup_first t n reference rights q l true true Spot.Nothing (Spot.At i) ew ef eh ep =
+setup_first t n reference rights q l true true None (Some i) ew ef eh ep =
     inr (not_faulty t ew, inr (un (is_ranged reference rights ef), inr (un (not_found t reference eh), inr (un (not_full t 0 i ep), inr ((λ x. x.0 (setup tt)), inr ((λ x. x (setup tt)), setup_zero t i reference rights q l ef))))))
 
 -- ---- other events
-call_number : (t : List Call) (n i : ℕ) (e : Event) (l : List ℕ) → opens_of e ≡ false → get_or t i fresh_call ≡ held_call t n → verdict_number (outcome_at t (Choice.At i) e l).verdict ≡ number_of (step_of (held_call t n) e l).answer
+call_number : (t : List Call) (n i : ℕ) (e : Event) (l : List ℕ) → opens_of e ≡ false → get_or t i fresh_call ≡ held_call t n → verdict_number (outcome_at t (Ok i) e l).verdict ≡ number_of (step_of (held_call t n) e l).answer
 unfolding settled_of heard_outcome_of subject_of
 call_number t n i e l eo ec = λ j. number_of (step_of (cond (eo j) fresh_call (ec j)) e l).answer
 
@@ -95,13 +95,13 @@ no_setup e eo (setup x) = never refl eo
 other : {P : ℕ → Rights → Type 0} {e : Event} → Other e → SetsUp P e → ⊥
 other o (setup p) = o (setup tt)
 
-other_first : (t : List Call) (n : ℕ) (e : Event) (l : List ℕ) (w f : Bool) (h p : Spot) → opens_of e ≡ false → table_sound t ≡ w → find_from t 0 n ≡ h → First (table_rows t n e l) (verdict_number (outcome_at t (choice_of w false f h p) e l).verdict)
+other_first : (t : List Call) (n : ℕ) (e : Event) (l : List ℕ) (w f : Bool) (h p : Option ℕ) → opens_of e ≡ false → table_sound t ≡ w → find_from t 0 n ≡ h → First (table_rows t n e l) (verdict_number (outcome_at t (choice_of w false f h p) e l).verdict)
 unfolding table_refusal_of
 other_first t n e l false f h p eo ew eh = inl (is_faulty t ew, refl)
-other_first t n e l true f Spot.Nothing p eo ew eh =
+other_first t n e l true f None p eo ew eh =
     let o = no_setup e eo in
     inr (not_faulty t ew, inr (other o, inr (other o, inr (other o, inl ((o, not_found t n eh), refl)))))
-other_first t n e l true f (Spot.At i) p eo ew eh =
+other_first t n e l true f (Some i) p eo ew eh =
     let o = no_setup e eo in
     inr (not_faulty t ew, inr (other o, inr (other o, inr (other o, inr ((λ x. x.1 (found_held t n i eh)), inl (o, call_number t n i e l eo (found_call t i n eh)))))))
 
@@ -115,7 +115,7 @@ other_number t n e l eo =
     subst (First (table_rows t n e l)) (sym (number_is t n e l (table_sound t) false (setup_ranged_of e) (find_from t 0 n) (place_from t 0) refl eo refl (ap (find_from t 0) (own_reference n (wanted_of e) eo)) refl))
     (other_first t n e l (table_sound t) (setup_ranged_of e) (find_from t 0 n) (place_from t 0) eo refl refl)
 
-setup_number : (t : List Call) (n : ℕ) (l : List ℕ) (reference : ℕ) (rights : Rights) (q : Requests) → First (table_rows t n (Event.Setup reference rights q) l) (number_at t n (Event.Setup reference rights q) l)
+setup_number : (t : List Call) (n : ℕ) (l : List ℕ) (reference : ℕ) (rights : Rights) (q : ByService Request) → First (table_rows t n (Event.Setup reference rights q) l) (number_at t n (Event.Setup reference rights q) l)
 setup_number t n l reference rights q =
     subst (First (table_rows t n (Event.Setup reference rights q) l)) (sym (number_is t n (Event.Setup reference rights q) l (table_sound t) true (reference_fits_of reference && rights_fit_of rights) (find_from t 0 reference) (place_from t 0) refl refl refl refl refl))
     (setup_first t n reference rights q l (table_sound t) (reference_fits_of reference && rights_fit_of rights) (find_from t 0 reference) (place_from t 0) refl refl refl refl)
@@ -157,44 +157,44 @@ settled_keeps : (c : Call) (e : Event) (l : List ℕ) → (verdict_number (settl
 unfolding settled_of heard_outcome_of record_kept_of
 settled_keeps c e l h k = ap (λ (t : Bool). cond t (step_of (subject_of c (wanted_of e)) e l).call c) (refusal_keeps (step_of (subject_of c (wanted_of e)) e l).answer h k)
 
-refused_at : (t : List Call) (c : Choice) (e : Event) (l : List ℕ) → (verdict_number (outcome_at t c e l).verdict ≡ 0 → ⊥) → (verdict_number (outcome_at t c e l).verdict ≡ 14 → ⊥) → table_at t c e l ≡ t
-refused_at t (Choice.At i) e l h k = ap (set t i) (settled_keeps (get_or t i fresh_call) e l h k) ∙ put_back t i
-refused_at t (Choice.Refused v) e l h k = refl
+refused_at : (t : List Call) (c : Result ℕ Verdict) (e : Event) (l : List ℕ) → (verdict_number (outcome_at t c e l).verdict ≡ 0 → ⊥) → (verdict_number (outcome_at t c e l).verdict ≡ 14 → ⊥) → table_at t c e l ≡ t
+refused_at t (Ok i) e l h k = ap (set t i) (settled_keeps (get_or t i fresh_call) e l h k) ∙ put_back t i
+refused_at t (Err v) e l h k = refl
 
 pub refused : RefusalsKeep
 unfolding step_outcome step_table
 refused t n e l h k = refused_at t (chosen_of t n e) e l h k
 
 -- ---- one place
-one_at : (t : List Call) (c : Choice) (e : Event) (l : List ℕ) → OneChanged t (table_at t c e l)
-one_at t (Choice.At i) e l =
+one_at : (t : List Call) (c : Result ℕ Verdict) (e : Event) (l : List ℕ) → OneChanged t (table_at t c e l)
+one_at t (Ok i) e l =
     record { place = i; others = λ j h. get_or-set_other t i j (settled_of (get_or t i fresh_call) e l).call fresh_call h; same = length-set t i (settled_of (get_or t i fresh_call) e l).call }
-one_at t (Choice.Refused v) e l = record { place = 0; others = λ j h. refl; same = refl }
+one_at t (Err v) e l = record { place = 0; others = λ j h. refl; same = refl }
 
 pub one_place : OnePlace
 unfolding step_table
 one_place t n e l = one_at t (chosen_of t n e) e l
 
 -- ---- the place that is named
-new_lowest : (t : List Call) (h p : Spot) (i : ℕ) → place_from t 0 ≡ p → new_place_of h p ≡ Choice.At i → Lowest t i
-new_lowest t (Spot.At m) p i ep e = not_refused i _ (sym e)
-new_lowest t Spot.Nothing (Spot.At m) i ep e = found_lowest t i (ep ∙ ap Spot.At (same_chosen m i e))
-new_lowest t Spot.Nothing Spot.Nothing i ep e = not_refused i _ (sym e)
+new_lowest : (t : List Call) (h p : Option ℕ) (i : ℕ) → place_from t 0 ≡ p → new_place_of h p ≡ Ok i → Lowest t i
+new_lowest t (Some m) p i ep e = not_refused i _ (sym e)
+new_lowest t None (Some m) i ep e = found_lowest t i (ep ∙ ap Some (same_chosen m i e))
+new_lowest t None None i ep e = not_refused i _ (sym e)
 
-old_live : (t : List Call) (n : ℕ) (h : Spot) (i : ℕ) → find_from t 0 n ≡ h → old_place_of h ≡ Choice.At i → LiveAt t i n
-old_live t n (Spot.At m) i eh e = found_live t i n (eh ∙ ap Spot.At (same_chosen m i e))
-old_live t n Spot.Nothing i eh e = not_refused i _ (sym e)
+old_live : (t : List Call) (n : ℕ) (h : Option ℕ) (i : ℕ) → find_from t 0 n ≡ h → old_place_of h ≡ Ok i → LiveAt t i n
+old_live t n (Some m) i eh e = found_live t i n (eh ∙ ap Some (same_chosen m i e))
+old_live t n None i eh e = not_refused i _ (sym e)
 
-new_names : (t : List Call) (w f : Bool) (h : Spot) (i : ℕ) → choice_of w true f h (place_from t 0) ≡ Choice.At i → Lowest t i
+new_names : (t : List Call) (w f : Bool) (h : Option ℕ) (i : ℕ) → choice_of w true f h (place_from t 0) ≡ Ok i → Lowest t i
 new_names t false f h i e = not_refused i _ (sym e)
 new_names t true false h i e = not_refused i _ (sym e)
 new_names t true true h i e = new_lowest t h (place_from t 0) i refl e
 
-old_names : (t : List Call) (n : ℕ) (w f : Bool) (p : Spot) (i : ℕ) → choice_of w false f (find_from t 0 n) p ≡ Choice.At i → LiveAt t i n
+old_names : (t : List Call) (n : ℕ) (w f : Bool) (p : Option ℕ) (i : ℕ) → choice_of w false f (find_from t 0 n) p ≡ Ok i → LiveAt t i n
 old_names t n false f p i e = not_refused i _ (sym e)
 old_names t n true f p i e = old_live t n (find_from t 0 n) i refl e
 
-setup_names : (t : List Call) (n i reference : ℕ) (rights : Rights) (q : Requests) → chosen_of t n (Event.Setup reference rights q) ≡ Choice.At i → Names t n i (Event.Setup reference rights q)
+setup_names : (t : List Call) (n i reference : ℕ) (rights : Rights) (q : ByService Request) → chosen_of t n (Event.Setup reference rights q) ≡ Ok i → Names t n i (Event.Setup reference rights q)
 unfolding chosen_of choose_of
 setup_names t n i reference rights q c =
     lowest (new_names t (table_sound t) (reference_fits_of reference && rights_fit_of rights) (find_from t 0 reference) i c)
@@ -203,18 +203,18 @@ other_chosen : (t : List Call) (n : ℕ) (e : Event) → opens_of e ≡ false �
 unfolding chosen_of choose_of
 other_chosen t n e eo = λ j. choice_of (table_sound t) (eo j) (setup_ranged_of e) (find_from t 0 (own_reference n (wanted_of e) eo j)) (place_from t 0)
 
-pub chosen_names : (t : List Call) (n : ℕ) (e : Event) (i : ℕ) → chosen_of t n e ≡ Choice.At i → Names t n i e
+pub chosen_names : (t : List Call) (n : ℕ) (e : Event) (i : ℕ) → chosen_of t n e ≡ Ok i → Names t n i e
 chosen_names t n e i c =
-    either_way (opens_of e) (λ eo. of_setup (λ e. chosen_of t n e ≡ Choice.At i → Names t n i e) (setup_names t n i) e eo c)
+    either_way (opens_of e) (λ eo. of_setup (λ e. chosen_of t n e ≡ Ok i → Names t n i e) (setup_names t n i) e eo c)
     (λ eo. holding (no_setup e eo) (old_names t n (table_sound t) (setup_ranged_of e) (place_from t 0) i (sym (other_chosen t n e eo) ∙ c)))
 
-place_named : (t : List Call) (n : ℕ) (e : Event) (l : List ℕ) (i m : ℕ) (s : Bool) → eqb i m ≡ s → chosen_of t n e ≡ Choice.At m → (get_or (set t m (settled_of (get_or t m fresh_call) e l).call) i fresh_call ≡ get_or t i fresh_call → ⊥) → Names t n i e
-place_named t n e l i m true es ec h = chosen_names t n e i (ec ∙ ap Choice.At (sym (eqb-true i m es)))
+place_named : (t : List Call) (n : ℕ) (e : Event) (l : List ℕ) (i m : ℕ) (s : Bool) → eqb i m ≡ s → chosen_of t n e ≡ Ok m → (get_or (set t m (settled_of (get_or t m fresh_call) e l).call) i fresh_call ≡ get_or t i fresh_call → ⊥) → Names t n i e
+place_named t n e l i m true es ec h = chosen_names t n e i (ec ∙ ap Ok (sym (eqb-true i m es)))
 place_named t n e l i m false es ec h = absurd (h (get_or-set_other t m i (settled_of (get_or t m fresh_call) e l).call fresh_call (eqb-false i m es)))
 
-named_at : (t : List Call) (n : ℕ) (e : Event) (l : List ℕ) (i : ℕ) (c : Choice) → chosen_of t n e ≡ c → (get_or (table_at t c e l) i fresh_call ≡ get_or t i fresh_call → ⊥) → Names t n i e
-named_at t n e l i (Choice.At m) ec h = place_named t n e l i m (eqb i m) refl ec h
-named_at t n e l i (Choice.Refused v) ec h = absurd (h refl)
+named_at : (t : List Call) (n : ℕ) (e : Event) (l : List ℕ) (i : ℕ) (c : Result ℕ Verdict) → chosen_of t n e ≡ c → (get_or (table_at t c e l) i fresh_call ≡ get_or t i fresh_call → ⊥) → Names t n i e
+named_at t n e l i (Ok m) ec h = place_named t n e l i m (eqb i m) refl ec h
+named_at t n e l i (Err v) ec h = absurd (h refl)
 
 pub named : Named
 unfolding step_table
@@ -235,24 +235,24 @@ own_kept c e l eo h =
     (λ j. cond (changes_of (step_of (cond (eo j) fresh_call c) e l).answer) (step_of (cond (eo j) fresh_call c) e l).call c)
     ∙ ap (λ (t : Bool). cond t (step_of c e l).call c) (changes_at (step_of c e l).answer 14 h)
 
-table_is : (t : List Call) (n : ℕ) (e : Event) (l : List ℕ) (w o f : Bool) (h p : Spot) → table_sound t ≡ w → opens_of e ≡ o → setup_ranged_of e ≡ f → find_from t 0 (meant_reference_of n e) ≡ h → place_from t 0 ≡ p → step_table t n e l ≡ table_at t (choice_of w o f h p) e l
+table_is : (t : List Call) (n : ℕ) (e : Event) (l : List ℕ) (w o f : Bool) (h p : Option ℕ) → table_sound t ≡ w → opens_of e ≡ o → setup_ranged_of e ≡ f → find_from t 0 (meant_reference_of n e) ≡ h → place_from t 0 ≡ p → step_table t n e l ≡ table_at t (choice_of w o f h p) e l
 unfolding step_table chosen_of choose_of
 table_is t n e l w o f h p ew eo ef eh ep = λ j. table_at t (choice_of (ew j) (eo j) (ef j) (eh j) (ep j)) e l
 
-setup_not_14 : {X : Type 0} (t : List Call) (reference : ℕ) (rights : Rights) (q : Requests) (l : List ℕ) (w f : Bool) (h p : Spot) → (reference_fits_of reference && rights_fit_of rights) ≡ f
+setup_not_14 : {X : Type 0} (t : List Call) (reference : ℕ) (rights : Rights) (q : ByService Request) (l : List ℕ) (w f : Bool) (h p : Option ℕ) → (reference_fits_of reference && rights_fit_of rights) ≡ f
     → verdict_number (outcome_at t (choice_of w true f h p) (Event.Setup reference rights q) l).verdict ≡ 14 → X
 unfolding table_refusal_of
 setup_not_14 t reference rights q l false f h p ef e = not_14 25 refl e
 setup_not_14 t reference rights q l true false h p ef e = not_14 24 refl e
-setup_not_14 t reference rights q l true true (Spot.At i) p ef e = not_14 22 refl e
-setup_not_14 t reference rights q l true true Spot.Nothing Spot.Nothing ef e = not_14 21 refl e
-setup_not_14 t reference rights q l true true Spot.Nothing (Spot.At i) ef e = not_14 0 refl (sym (setup_zero t i reference rights q l ef) ∙ e)
+setup_not_14 t reference rights q l true true (Some i) p ef e = not_14 22 refl e
+setup_not_14 t reference rights q l true true None None ef e = not_14 21 refl e
+setup_not_14 t reference rights q l true true None (Some i) ef e = not_14 0 refl (sym (setup_zero t i reference rights q l ef) ∙ e)
 
-other_spent : (t : List Call) (n : ℕ) (e : Event) (l : List ℕ) (w f : Bool) (h p : Spot) (s : List Call) → opens_of e ≡ false → find_from t 0 n ≡ h → verdict_number (outcome_at t (choice_of w false f h p) e l).verdict ≡ 14 → s ≡ table_at t (choice_of w false f h p) e l → OneSpent t s n e l
+other_spent : (t : List Call) (n : ℕ) (e : Event) (l : List ℕ) (w f : Bool) (h p : Option ℕ) (s : List Call) → opens_of e ≡ false → find_from t 0 n ≡ h → verdict_number (outcome_at t (choice_of w false f h p) e l).verdict ≡ 14 → s ≡ table_at t (choice_of w false f h p) e l → OneSpent t s n e l
 unfolding table_refusal_of
 other_spent t n e l false f h p s eo eh k es = not_14 25 refl k
-other_spent t n e l true f Spot.Nothing p s eo eh k es = not_14 23 refl k
-other_spent t n e l true f (Spot.At i) p s eo eh k es =
+other_spent t n e l true f None p s eo eh k es = not_14 23 refl k
+other_spent t n e l true f (Some i) p s eo eh k es =
     let spent : number_of (step_of (get_or t i fresh_call) e l).answer ≡ 14 = sym (own_number (get_or t i fresh_call) e l eo) ∙ k in
     record { place = i; live = found_live t i n eh; answer = spent; table = es ∙ ap (set t i) (own_kept (get_or t i fresh_call) e l eo spent) }
 
@@ -263,7 +263,7 @@ other_fourteen t n e l eo k =
     (sym (number_is t n e l (table_sound t) false (setup_ranged_of e) (find_from t 0 n) (place_from t 0) refl eo refl er refl) ∙ k)
     (table_is t n e l (table_sound t) false (setup_ranged_of e) (find_from t 0 n) (place_from t 0) refl eo refl er refl)
 
-setup_fourteen : (t : List Call) (n : ℕ) (l : List ℕ) (reference : ℕ) (rights : Rights) (q : Requests) → number_at t n (Event.Setup reference rights q) l ≡ 14 → OneSpent t (step_table t n (Event.Setup reference rights q) l) n (Event.Setup reference rights q) l
+setup_fourteen : (t : List Call) (n : ℕ) (l : List ℕ) (reference : ℕ) (rights : Rights) (q : ByService Request) → number_at t n (Event.Setup reference rights q) l ≡ 14 → OneSpent t (step_table t n (Event.Setup reference rights q) l) n (Event.Setup reference rights q) l
 setup_fourteen t n l reference rights q k =
     setup_not_14 t reference rights q l (table_sound t) (reference_fits_of reference && rights_fit_of rights) (find_from t 0 reference) (place_from t 0) refl
     (sym (number_is t n (Event.Setup reference rights q) l (table_sound t) true (reference_fits_of reference && rights_fit_of rights) (find_from t 0 reference) (place_from t 0) refl refl refl refl refl) ∙ k)

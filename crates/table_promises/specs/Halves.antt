@@ -1,10 +1,11 @@
 -- An event at the table in halves: `look`, `plans` and `commit`, for a host that has something to do between the answer
 -- and the change.
+use Rattle.std.specs.Prelude.{Option, Some, None}
+use Rattle.table.specs.declared.plan.Seat.{Seat}
 use Rattle.std.specs.Prelude.{ℕ, ◌<◌, List, [], ◌∷◌, ◌≡◌, length, get_or}
 use Rattle.call.specs.declared.Call.{Call}
 use Rattle.event.specs.declared.Event.{Event}
 use Rattle.call.specs.Sound.{fresh_call}
-use Rattle.table.specs.declared.plan.Change.{Change}
 use Rattle.table.specs.declared.plan.Plan.{Plan}
 use Rattle.table.specs.Halves.{look_of, committed}
 use Rattle.table.specs.Plan.{plan_of}
@@ -26,11 +27,11 @@ abbrev pub Halves : Type 0
 Halves = (t : List Call) (n : ℕ) (e : Event) (element : List ℕ) → InHalves t n e element
 
 -- what a change makes of a table s: its record stands at its place, whatever stood there, and no other place changes
-pub data Puts (s after : List Call) : Change → Type 0 where
-  nowhere : after ≡ s → Puts s after Change.Nothing
+pub data Puts (s after : List Call) : Option Seat → Type 0 where
+  nowhere : after ≡ s → Puts s after None
   somewhere : {i : ℕ} {c : Call} →
       (i < length s → get_or after i fresh_call ≡ c) → ((j : ℕ) → (j ≡ i → ⊥) → get_or after j fresh_call ≡ get_or s j fresh_call) →
-      length after ≡ length s → Puts s after (Change.At i c)
+      length after ≡ length s → Puts s after (Some (record { place = i; call = c }))
 
 -- STALE. A plan made from an older table t does to the table s of now what it was made for: `commit` does not look
 -- again. Whoever steps in halves lets nothing else change the table in between.

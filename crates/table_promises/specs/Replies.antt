@@ -1,11 +1,11 @@
 -- What is sent at the table, and what a taken event leaves there. `AloneMet` in Alone.antt computes runs with events
 -- that the table refuses (21, 22, 23), that the call refuses (13) and that are taken.
+use Rattle.std.specs.Prelude.{None}
+use Rattle.services.specs.declared.ByService.{ByService}
+use Rattle.services.specs.declared.Request.{Request}
 use Rattle.std.specs.Prelude.{ℕ, false, cond, List, ◌≡◌, get_or}
 use Rattle.rights.specs.declared.Rights.{Rights}
-use Rattle.services.specs.declared.Requests.{Requests}
 use Rattle.user_element.specs.Element.{note_number_of}
-use Rattle.sent.specs.declared.Sent.{Sent}
-use Rattle.sent.specs.declared.dispatch.Carrier.{Carrier}
 use Rattle.answer.specs.Answer.{number_of}
 use Rattle.call.specs.declared.Call.{Call}
 use Rattle.event.specs.declared.Event.{Event}
@@ -29,16 +29,16 @@ pub data SetupBarred (t : List Call) (reference : ℕ) (rights : Rights) : Type 
 -- beside the event, and `opens_of e` says that e is a SETUP.
 pub data TableRefuses (t : List Call) (n : ℕ) : Event → Type 0 where
   faulty : (e : Event) → Faulty t → TableRefuses t n e
-  setup : (reference : ℕ) (rights : Rights) (requests : Requests) →
+  setup : (reference : ℕ) (rights : Rights) (requests : ByService Request) →
       SetupBarred t reference rights → TableRefuses t n (Event.Setup reference rights requests)
   other : (e : Event) → opens_of e ≡ false → (Held t n → ⊥) → TableRefuses t n e
 
 -- "11 to 25 .. send nothing", and "Every other refusal has note 0."
 pub record Silent (o : Outcome) : Type 0 where
   pub note : note_number_of o.note ≡ 0
-  pub calling : o.dispatch.calling ≡ Sent.Absent
-  pub called : o.dispatch.called ≡ Sent.Absent
-  pub carrier : o.dispatch.carrier ≡ Carrier.Nobody
+  pub calling : o.dispatch.calling ≡ None
+  pub called : o.dispatch.called ≡ None
+  pub carrier : o.dispatch.carrier ≡ None
 
 -- "SETUP fills the whole record, used for one call": it starts from a fresh one, whatever the place held.
 abbrev pub steps_from : Call → Event → Call

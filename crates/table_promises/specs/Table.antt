@@ -1,4 +1,6 @@
 -- What is promised of the table, over the definitions. Each statement is a type; `proofs/Table.antt` has its proof.
+use Rattle.services.specs.declared.ByService.{ByService}
+use Rattle.services.specs.declared.Request.{Request}
 use Rattle.std.specs.Prelude.{ℕ, ◌<◌, cond, List, [], ◌∷◌, ◌⊎◌, ◌≡◌, length, get_or, set}
 use Rattle.logic.specs.First.{Rows, end, row, Exactly}
 use Rattle.phases.specs.declared.Phase.{Phase}
@@ -12,7 +14,6 @@ use Rattle.table.specs.Sought.{live_as}
 use Rattle.table.specs.Verdict.{verdict_number}
 use Rattle.table.specs.Step.{step_outcome, step_table}
 use Rattle.rights.specs.declared.Rights.{Rights}
-use Rattle.services.specs.declared.Requests.{Requests}
 
 -- "Places Fresh or Ended are free, all others are live"
 abbrev pub Free : Phase → Type 0
@@ -45,7 +46,7 @@ held_call (c ∷ cs) n = cond (live_as c n) c (held_call cs n)
 
 -- the event is SETUP, and P holds of its reference and rights
 pub data SetsUp (P : ℕ → Rights → Type 0) : Event → Type 0 where
-  setup : {reference : ℕ} {rights : Rights} {requests : Requests} → P reference rights → SetsUp P (Event.Setup reference rights requests)
+  setup : {reference : ℕ} {rights : Rights} {requests : ByService Request} → P reference rights → SetsUp P (Event.Setup reference rights requests)
 
 -- any other event
 abbrev pub Other : Event → Type 0
@@ -91,7 +92,7 @@ pub record Lowest (t : List Call) (i : ℕ) : Type 0 where
   pub lower : (j : ℕ) → j < i → Free (get_or t j fresh_call).phase → ⊥
 
 pub data Names (t : List Call) (n i : ℕ) : Event → Type 0 where
-  lowest : {reference : ℕ} {rights : Rights} {requests : Requests} → Lowest t i → Names t n i (Event.Setup reference rights requests)
+  lowest : {reference : ℕ} {rights : Rights} {requests : ByService Request} → Lowest t i → Names t n i (Event.Setup reference rights requests)
   holding : {e : Event} → Other e → LiveAt t i n → Names t n i e
 
 abbrev pub Named : Type 0

@@ -1,4 +1,5 @@
 -- A piece after a piece.
+use Rattle.std.specs.Prelude.{Result, Ok, Err}
 use Prim.Native.Nat.{ℕ, ◌+◌, ◌-◌, ◌<◌, ◌≤◌}
 use mathlib.Core.List.{List, [], ◌∷◌, ◌++◌, append_assoc}
 use mathlib.Core.Bool.{Bool, true, false, cond}
@@ -10,14 +11,13 @@ use lib.Dec.{leb}
 use lib.ListN.{length, take, drop, set, length-append, length-set}
 use lib.Seq.{take-append_seam, set_split}
 use Rattle.memory.specs.declared.Bar.{Bar}
-use Rattle.memory.specs.declared.Wrote.{Wrote}
 use Rattle.memory.specs.Room.{placed, wrote_of, left_of, Written}
 use Rattle.memory.specs.Putting.{end_of}
 use Rattle.memory.proofs.Pieces.{settles, no_put, puts, put_length}
 use Rattle.text.specs.Pieces.{Piece}
 
 -- what was written where there is room for it is a piece
-pub settled : {most at r : ℕ} {p l l' : List ℕ} {w : Wrote} → at + most ≤ length l → length p ≤ most → Written true at p l l' w → r ≡ end_of w → Piece most at p l l' r
+pub settled : {most at r : ℕ} {p l l' : List ℕ} {w : Result ℕ Bar} → at + most ≤ length l → length p ≤ most → Written true at p l l' w → r ≡ end_of w → Piece most at p l l' r
 settled h k v e = record { put = settles refl (omega arith) v e; small = k }
 
 -- no octets
@@ -43,7 +43,7 @@ two_octets {at} {x} {y} {l} h =
     record { put = record { end = refl; octets = p.put.octets }; small = p.small }
 
 -- an octet, and what was written after it
-pub marked : {m at r x : ℕ} {p l l' : List ℕ} {w : Wrote} → at + (1 + m) ≤ length l → length p ≤ m → Written true (at + 1) p (set l at x) l' w → r ≡ end_of w → Piece (1 + m) at (x ∷ p) l l' r
+pub marked : {m at r x : ℕ} {p l l' : List ℕ} {w : Result ℕ Bar} → at + (1 + m) ≤ length l → length p ≤ m → Written true (at + 1) p (set l at x) l' w → r ≡ end_of w → Piece (1 + m) at (x ∷ p) l l' r
 marked {l = l} h k v e = two h (octet (omega arith)) (settled (simp length-set (omega arith)) k v e)
 
 -- a buffer with a piece in it is as long
@@ -66,18 +66,18 @@ at_start {m} {r} {p} {l} {l'} a =
     rw (e, a.put.octets) (take-append_seam p (drop (0 + length p) l))
 
 -- what an answer says of the room
-answered : (t : Bool) (at : ℕ) (p l : List ℕ) {e : ℕ} {l' : List ℕ} → leb (at + length p) (length l) ≡ t → Wrote.To e ≡ cond t (Wrote.To (at + length p)) (Wrote.Refused Bar.Room) → l' ≡ cond t (placed at p l) l → (at + length p ≤ length l) × (e ≡ at + length p) × (l' ≡ placed at p l)
+answered : (t : Bool) (at : ℕ) (p l : List ℕ) {e : ℕ} {l' : List ℕ} → leb (at + length p) (length l) ≡ t → Ok e ≡ cond t (Ok (at + length p)) (Err Bar.Room) → l' ≡ cond t (placed at p l) l → (at + length p ≤ length l) × (e ≡ at + length p) × (l' ≡ placed at p l)
 answered true at p l h a b = (leb-true _ _ h, cc, b)
 answered false at p l h a b = let z : ◌≡◌ {A = ℕ} 0 1 = cc in absurd (omega arith)
 
-declined : (t : Bool) (at : ℕ) (p l : List ℕ) {b : Bar} {l' : List ℕ} → leb (at + length p) (length l) ≡ t → Wrote.Refused b ≡ cond t (Wrote.To (at + length p)) (Wrote.Refused Bar.Room) → l' ≡ cond t (placed at p l) l → (length l < at + length p) × (l' ≡ l)
+declined : (t : Bool) (at : ℕ) (p l : List ℕ) {b : Bar} {l' : List ℕ} → leb (at + length p) (length l) ≡ t → Err b ≡ cond t (Ok (at + length p)) (Err Bar.Room) → l' ≡ cond t (placed at p l) l → (length l < at + length p) × (l' ≡ l)
 declined true at p l h a b = let z : ◌≡◌ {A = ℕ} 0 1 = cc in absurd (omega arith)
 declined false at p l h a b = (leb-false _ _ h, b)
 
-pub took : {at e : ℕ} {p l l' : List ℕ} → Written true at p l l' (Wrote.To e) → (at + length p ≤ length l) × (e ≡ at + length p) × (l' ≡ placed at p l)
+pub took : {at e : ℕ} {p l l' : List ℕ} → Written true at p l l' (Ok e) → (at + length p ≤ length l) × (e ≡ at + length p) × (l' ≡ placed at p l)
 unfolding wrote_of left_of
 took {at} {e} {p} {l} w = answered (leb (at + length p) (length l)) at p l refl w.answer w.buffer
 
-pub refused : {at : ℕ} {b : Bar} {p l l' : List ℕ} → Written true at p l l' (Wrote.Refused b) → (length l < at + length p) × (l' ≡ l)
+pub refused : {at : ℕ} {b : Bar} {p l l' : List ℕ} → Written true at p l l' (Err b) → (length l < at + length p) × (l' ≡ l)
 unfolding wrote_of left_of
 refused {at} {b} {p} {l} w = declined (leb (at + length p) (length l)) at p l refl w.answer w.buffer

@@ -1,9 +1,9 @@
 -- A text of hexadecimal digits, and the octets that it spells: two digits an octet, the high one first, with white
 -- space and comments anywhere between them.
+use Rattle.std.specs.Prelude.{Option, Some, None}
 use Rattle.std.specs.Prelude.{ℕ, ◌+◌, ◌-◌, ◌*◌, ◌%◌, List, [], ◌∷◌, ◌++◌, Bool, true, false, cond, not, ◌&&◌, ◌||◌, ◌≡◌, length, leb, eqb}
 use Rattle.memory.specs.Room.{placed}
 use Rattle.text.specs.declared.octets.Sign.{Sign}
-use Rattle.text.specs.declared.octets.Pending.{Pending}
 use Rattle.text.specs.declared.octets.Reading.{Reading}
 use Rattle.text.specs.declared.octets.Step.{Step}
 use Rattle.text.specs.declared.octets.Spelt.{Spelt}
@@ -18,11 +18,11 @@ sign_of x =
     (cond (eqb x 35) Sign.Hash Sign.Other))))
 
 -- a digit: the high one of an octet, or the low one, with which the octet is whole
-abbrev pub joined : Pending → ℕ → Step
-joined Pending.Nothing d = Step.On (record { pending = Pending.High d; comment = false })
-joined (Pending.High h) d = Step.Whole (h % 16 * 16 + d % 16)
+abbrev pub joined : Option ℕ → ℕ → Step
+joined None d = Step.On (record { pending = Some d; comment = false })
+joined (Some h) d = Step.Whole (h % 16 * 16 + d % 16)
 
-abbrev pub outside_comment : Pending → Sign → Step
+abbrev pub outside_comment : Option ℕ → Sign → Step
 outside_comment p (Sign.Digit d) = joined p d
 outside_comment p Sign.Blank = Step.On (record { pending = p; comment = false })
 outside_comment p Sign.Hash = Step.On (record { pending = p; comment = true })
@@ -36,7 +36,7 @@ step_of s x =
 
 -- before any text
 abbrev pub unread_of : Reading
-unread_of = record { pending = Pending.Nothing; comment = false }
+unread_of = record { pending = None; comment = false }
 
 -- what is read of a text: how much of it, the octets, where reading then stands, and whether there is a fault
 pub record Spelling : Type 0 where
@@ -66,9 +66,9 @@ read_of (x ∷ t) room s =
     (λ (y : ℕ). cond (leb 1 room) (after 1 (y ∷ []) (read_of t (room - 1) unread_of)) (stopped s false))
 
 -- a high digit whose low one never came
-abbrev pub alone_of : Pending → Bool
-alone_of Pending.Nothing = false
-alone_of (Pending.High h) = true
+abbrev pub alone_of : Option ℕ → Bool
+alone_of None = false
+alone_of (Some h) = true
 
 abbrev pub answer_of : Spelling → Spelt
 answer_of w = record { used = w.used; wrote = length w.octets; reading = w.reading; fault = w.fault }

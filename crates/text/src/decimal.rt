@@ -3,7 +3,7 @@ ghost use Rattle.std.specs.Prelude.{◌≡◌, true, ◌+◌, ◌<◌};
 ghost use Rattle.memory.specs.Room.{Written};
 ghost use Rattle.text.specs.Decimal.{decimal_of};
 
-use memory::{Wrote, write_octets};
+use memory::{Bar, write_octets};
 
 fn digit(d: u64) -> u8
     requires { d < 10 }
@@ -14,7 +14,7 @@ fn digit(d: u64) -> u8
 
 // Writes the digits from a place on; where they do not fit, nothing. They are found from the last to the first, so they
 // are laid out in an array of the most that a number has.
-pub fn write_decimal(buf: &mut [u8], at: usize, n: u64) -> Wrote
+pub fn write_decimal(buf: &mut [u8], at: usize, n: u64) -> Result<usize, Bar>
     ensures { Written true at (decimal_of n) buf.old buf.new result }
 {
     let mut digits = [0u8; 20];

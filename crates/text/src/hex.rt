@@ -3,7 +3,7 @@ ghost use Rattle.std.specs.Prelude.{◌≡◌, true, ◌<◌};
 ghost use Rattle.memory.specs.Room.{Written};
 ghost use Rattle.text.specs.Hex.{digit_of, hex_of};
 
-use memory::{Wrote, write_octets};
+use memory::{Bar, write_octets};
 
 #[tactic(auto, unfolding(crate::specs::Hex::digit_of))]
 fn digit(d: u8) -> u8
@@ -14,7 +14,7 @@ fn digit(d: u8) -> u8
 }
 
 // Writes the two digits from a place on; where they do not fit, nothing.
-pub fn write_hex(buf: &mut [u8], at: usize, x: u8) -> Wrote
+pub fn write_hex(buf: &mut [u8], at: usize, x: u8) -> Result<usize, Bar>
     ensures { Written true at (hex_of x) buf.old buf.new result }
 {
     let high = digit(x / 16);

@@ -12,17 +12,10 @@ enum Sign {
     Other,
 }
 
-// The first digit of an octet whose second is still to come.
-#[derive(Clone, Copy)]
-pub enum Pending {
-    Nothing,
-    High(u8),
-}
-
 // Where reading stands between two octets of the text: comment is from `#` to the end of its line.
 #[derive(Clone, Copy)]
 pub struct Reading {
-    pub pending: Pending,
+    pub pending: Option<u8>,
     pub comment: bool,
 }
 
@@ -91,15 +84,15 @@ fn sign_of(x: u8) -> Sign
     Sign::Other
 }
 
-fn with_digit(p: Pending, d: u8) -> Step
+fn with_digit(p: Option<u8>, d: u8) -> Step
     ensures { result ≡ joined p d }
 {
     match p {
-        Pending::Nothing => Step::On(Reading {
-            pending: Pending::High(d),
+        None => Step::On(Reading {
+            pending: Some(d),
             comment: false,
         }),
-        Pending::High(h) => Step::Whole(h % 16 * 16 + d % 16),
+        Some(h) => Step::Whole(h % 16 * 16 + d % 16),
     }
 }
 
@@ -134,7 +127,7 @@ pub fn unread() -> Reading
     ensures { result ≡ unread_of }
 {
     Reading {
-        pending: Pending::Nothing,
+        pending: None,
         comment: false,
     }
 }
@@ -145,8 +138,8 @@ pub fn alone(s: Reading) -> bool
 {
     let pending = s.pending;
     match pending {
-        Pending::Nothing => false,
-        Pending::High(_) => true,
+        None => false,
+        Some(_) => true,
     }
 }
 

@@ -8,7 +8,7 @@ ghost use Rattle.text.specs.Page.{text_end};
 
 use crate::decimal::write_decimal;
 use crate::hex::write_hex;
-use memory::{Wrote, write_octets};
+use memory::{Bar, write_octets};
 
 // Where the text of a page ends.
 pub fn text_end(page: &[u8]) -> usize
@@ -25,7 +25,7 @@ pub fn text_end(page: &[u8]) -> usize
 }
 
 // Puts a piece after the text; where it does not fit, nothing.
-pub fn add(page: &mut [u8], piece: &[u8]) -> Wrote
+pub fn add(page: &mut [u8], piece: &[u8]) -> Result<usize, Bar>
     ensures { Written true (text_end page.old) piece.now page.old page.new result }
 {
     let at = text_end(page);
@@ -33,7 +33,7 @@ pub fn add(page: &mut [u8], piece: &[u8]) -> Wrote
 }
 
 // The same with a number in decimal digits.
-pub fn add_decimal(page: &mut [u8], n: u64) -> Wrote
+pub fn add_decimal(page: &mut [u8], n: u64) -> Result<usize, Bar>
     ensures { Written true (text_end page.old) (decimal_of n) page.old page.new result }
 {
     let at = text_end(page);
@@ -41,7 +41,7 @@ pub fn add_decimal(page: &mut [u8], n: u64) -> Wrote
 }
 
 // The same with an octet in two hexadecimal digits.
-pub fn add_hex(page: &mut [u8], x: u8) -> Wrote
+pub fn add_hex(page: &mut [u8], x: u8) -> Result<usize, Bar>
     ensures { Written true (text_end page.old) (hex_of x) page.old page.new result }
 {
     let at = text_end(page);

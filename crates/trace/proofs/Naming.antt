@@ -1,25 +1,23 @@
 -- A record of a known kind.
+use Rattle.std.specs.Prelude.{Some, None, Ok, Err}
 use Prim.Native.Nat.{ℕ, ◌<◌, ◌≤◌}
 use mathlib.Core.List.{List}
 use mathlib.Core.Path.{◌≡◌}
 use borrow.Author.Tests.{lt-ltb, le-ltb}
 use lib.ListN.{length}
 use Rattle.trace.specs.declared.kind.RecordKind.{RecordKind}
-use Rattle.trace.specs.declared.kind.NamedKind.{NamedKind}
-use Rattle.trace.specs.declared.ranges.Tested.{Tested}
 use Rattle.trace.specs.declared.Fault.{Fault}
 use Rattle.trace.specs.declared.Field.{Field}
-use Rattle.trace.specs.declared.Record.{Record}
 use Rattle.trace.specs.Kind.{layout_of, size_of}
 use Rattle.trace.specs.Ranges.{first_out_of}
 use Rattle.trace.specs.Reading.{entry_of, named_of}
 
 module _ (k : RecordKind) (t : List ℕ) where
-  pub named_short : length t < size_of k → Record.Refused Fault.Short ≡ named_of (NamedKind.Known k) t
+  pub named_short : length t < size_of k → Some (Err Fault.Short) ≡ named_of (Some k) t
   named_short h = simp (lt-ltb (length t) (size_of k) h)
 
-  pub named_taken : size_of k ≤ length t → first_out_of (layout_of k) t ≡ Tested.InRange → Record.Taken (entry_of k t) ≡ named_of (NamedKind.Known k) t
+  pub named_taken : size_of k ≤ length t → first_out_of (layout_of k) t ≡ None → Some (Ok (entry_of k t)) ≡ named_of (Some k) t
   named_taken h e = simp (le-ltb (length t) (size_of k) h, e)
 
-  pub named_range : (f : Field) → size_of k ≤ length t → first_out_of (layout_of k) t ≡ Tested.Out f → Record.Refused (Fault.Range f) ≡ named_of (NamedKind.Known k) t
+  pub named_range : (f : Field) → size_of k ≤ length t → first_out_of (layout_of k) t ≡ Some f → Some (Err (Fault.Range f)) ≡ named_of (Some k) t
   named_range f h e = simp (le-ltb (length t) (size_of k) h, e)

@@ -1,20 +1,20 @@
 -- "One octet of kind, then a body of fixed length: 1 SETUP 143, 2 ALERTING 137, 3 CONNECT 137, 4 USER INFORMATION 135,
 -- 5 FACILITY 4, 6 DISCONNECT 139, 7 RELEASE COMPLETE 3, 8 tick 2."
+use Rattle.std.specs.Prelude.{Option, Some, None}
 use Rattle.std.specs.Prelude.{ℕ, ◌+◌, cond, eqb}
 use Rattle.trace.specs.declared.kind.RecordKind.{RecordKind}
-use Rattle.trace.specs.declared.kind.NamedKind.{NamedKind}
 use Rattle.trace.specs.declared.kind.Layout.{Layout}
 
-unfoldable pub record_kind_of : ℕ → NamedKind
+unfoldable pub record_kind_of : ℕ → Option RecordKind
 record_kind_of x =
-    cond (eqb x 1) (NamedKind.Known RecordKind.Setup)
-    (cond (eqb x 2) (NamedKind.Known RecordKind.Alerting)
-    (cond (eqb x 3) (NamedKind.Known RecordKind.Connect)
-    (cond (eqb x 4) (NamedKind.Known RecordKind.Information)
-    (cond (eqb x 5) (NamedKind.Known RecordKind.Facility)
-    (cond (eqb x 6) (NamedKind.Known RecordKind.Disconnect)
-    (cond (eqb x 7) (NamedKind.Known RecordKind.ReleaseComplete)
-    (cond (eqb x 8) (NamedKind.Known RecordKind.Tick) NamedKind.Unknown)))))))
+    cond (eqb x 1) (Some RecordKind.Setup)
+    (cond (eqb x 2) (Some RecordKind.Alerting)
+    (cond (eqb x 3) (Some RecordKind.Connect)
+    (cond (eqb x 4) (Some RecordKind.Information)
+    (cond (eqb x 5) (Some RecordKind.Facility)
+    (cond (eqb x 6) (Some RecordKind.Disconnect)
+    (cond (eqb x 7) (Some RecordKind.ReleaseComplete)
+    (cond (eqb x 8) (Some RecordKind.Tick) None)))))))
 
 -- The layout of each kind: what its octet of kind is, where its fields stand, the octet of kind counted as 0, and how
 -- many octets it has: the octet of kind and the body. A kind without a field has it at 0. "Bodies start with the

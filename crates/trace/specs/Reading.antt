@@ -1,16 +1,16 @@
 -- A record at the front of a trace.
+use Rattle.std.specs.Prelude.{Option, Some, None, Result, Ok, Err}
+use Rattle.trace.specs.declared.Field.{Field}
+use Rattle.services.specs.declared.ByService.{ByService}
+use Rattle.services.specs.declared.Request.{Request}
+use Rattle.services.specs.declared.Given.{Given}
 use Rattle.std.specs.Prelude.{ℕ, ◌+◌, ◌*◌, List, false, cond, length, get_or, ltb, eqb}
 use Rattle.event.specs.declared.Event.{Event}
 use Rattle.rights.specs.declared.Rights.{Rights}
-use Rattle.services.specs.declared.Answers.{Answers}
-use Rattle.services.specs.declared.Requests.{Requests}
 use Rattle.trace.specs.declared.kind.RecordKind.{RecordKind}
-use Rattle.trace.specs.declared.kind.NamedKind.{NamedKind}
 use Rattle.trace.specs.declared.kind.Layout.{Layout}
-use Rattle.trace.specs.declared.ranges.Tested.{Tested}
 use Rattle.trace.specs.declared.Fault.{Fault}
 use Rattle.trace.specs.declared.Entry.{Entry}
-use Rattle.trace.specs.declared.Record.{Record}
 use Rattle.trace.specs.Kind.{record_kind_of, layout_of, size_of}
 use Rattle.trace.specs.Ranges.{first_out_of}
 use Rattle.trace.specs.Values.{flag_of, side_of, request_of, given_of, what_of}
@@ -39,10 +39,10 @@ rights_of p t =
     }
 
 -- three of them from a place on
-unfoldable pub requests_of : ℕ → List ℕ → Requests
+unfoldable pub requests_of : ℕ → List ℕ → ByService Request
 requests_of p t = record { one = request_of (get_or t p 0); two = request_of (get_or t (p + 1) 0); three = request_of (get_or t (p + 2) 0) }
 
-unfoldable pub answers_of : ℕ → List ℕ → Answers
+unfoldable pub answers_of : ℕ → List ℕ → ByService Given
 answers_of p t = record { one = given_of (get_or t p 0); two = given_of (get_or t (p + 1) 0); three = given_of (get_or t (p + 2) 0) }
 
 -- "2 and 3: three answers. 4: side. 5: side, what. 6: side, cause, answers. 7: side." More data is in no trace.
@@ -71,19 +71,19 @@ entry_of k t =
     }
 
 -- a record that is all there
-abbrev pub whole_of : Tested → Entry → Record
-whole_of Tested.InRange e = Record.Taken e
-whole_of (Tested.Out f) e = Record.Refused (Fault.Range f)
+abbrev pub whole_of : Option Field → Entry → Option (Result Entry Fault)
+whole_of None e = Some (Ok e)
+whole_of (Some f) e = Some (Err (Fault.Range f))
 
-abbrev pub named_of : NamedKind → List ℕ → Record
-named_of NamedKind.Unknown t = Record.Refused Fault.Kind
-named_of (NamedKind.Known k) t =
-    cond (ltb (length t) (size_of k)) (Record.Refused Fault.Short) (whole_of (first_out_of (layout_of k) t) (entry_of k t))
+abbrev pub named_of : Option RecordKind → List ℕ → Option (Result Entry Fault)
+named_of None t = Some (Err Fault.Kind)
+named_of (Some k) t =
+    cond (ltb (length t) (size_of k)) (Some (Err Fault.Short)) (whole_of (first_out_of (layout_of k) t) (entry_of k t))
 
 -- "31, 32, 33: trace: unknown kind; record cut short; field out of range; in this order". A trace may end between
 -- records.
-unfoldable pub record_of : List ℕ → Record
-record_of t = cond (eqb (length t) 0) Record.End (named_of (record_kind_of (get_or t 0 0)) t)
+unfoldable pub record_of : List ℕ → Option (Result Entry Fault)
+record_of t = cond (eqb (length t) 0) None (named_of (record_kind_of (get_or t 0 0)) t)
 
 -- the element's octets, as the part of the trace that they are
 unfoldable pub element_of : Entry → List ℕ → List ℕ

@@ -14,12 +14,6 @@ pub enum RecordKind {
     Tick,
 }
 
-#[derive(Clone, Copy)]
-pub enum NamedKind {
-    Unknown,
-    Known(RecordKind),
-}
-
 // octet: what the octet of kind is. Then where each field stands, the octet of kind counted as 0; 0 for a kind without
 // the field. rights: services, and behind it late, leave, limit, X and Y; requests and answers: three octets each;
 // element: the element field. size: how many octets the record has, its octet of kind included.
@@ -37,19 +31,19 @@ pub struct Layout {
 }
 
 #[tactic(auto, unfolding(crate::specs::Kind::record_kind_of))]
-pub(crate) fn record_kind_in(x: u8) -> NamedKind
+pub(crate) fn record_kind_in(x: u8) -> Option<RecordKind>
     ensures { result ≡ record_kind_of x }
 {
     match x {
-        1 => NamedKind::Known(RecordKind::Setup),
-        2 => NamedKind::Known(RecordKind::Alerting),
-        3 => NamedKind::Known(RecordKind::Connect),
-        4 => NamedKind::Known(RecordKind::Information),
-        5 => NamedKind::Known(RecordKind::Facility),
-        6 => NamedKind::Known(RecordKind::Disconnect),
-        7 => NamedKind::Known(RecordKind::ReleaseComplete),
-        8 => NamedKind::Known(RecordKind::Tick),
-        _ => NamedKind::Unknown,
+        1 => Some(RecordKind::Setup),
+        2 => Some(RecordKind::Alerting),
+        3 => Some(RecordKind::Connect),
+        4 => Some(RecordKind::Information),
+        5 => Some(RecordKind::Facility),
+        6 => Some(RecordKind::Disconnect),
+        7 => Some(RecordKind::ReleaseComplete),
+        8 => Some(RecordKind::Tick),
+        _ => None,
     }
 }
 

@@ -2,17 +2,16 @@
 #![tactic(auto)]
 
 ghost use Rattle.std.specs.Prelude.{◌≡◌};
-ghost use Rattle.trace.specs.declared.kind.NamedKind.{NamedKind};
 ghost use Rattle.trace.specs.Reading.{record_reference_of, rights_of, named_of, requests_of, answers_of, event_of, count_of, entry_of, record_of, element_of};
 
-use crate::kind::{Layout, NamedKind, RecordKind, layout_of, record_kind_in, size};
-use crate::ranges::{Tested, first_out};
+use crate::kind::{Layout, RecordKind, layout_of, record_kind_in, size};
+use crate::ranges::first_out;
 use crate::values::{flag_in, given_in, octet_at, request_in, side_in, what_in};
 use event::Event;
 use memory::octet::{wide, wide16};
 use memory::stretch::stretch;
 use rights::{Rights, Service};
-use services::{Answers, Requests};
+use services::{ByService, Given, Request};
 
 mod element_field;
 pub mod kind;
@@ -52,13 +51,6 @@ pub struct Entry {
     pub count: usize,
 }
 
-#[derive(Clone, Copy)]
-pub enum Record {
-    End,
-    Taken(Entry),
-    Refused(Fault),
-}
-
 #[tactic(auto, unfolding(crate::specs::Reading::record_reference_of))]
 fn reference(t: &[u8]) -> u16
     ensures { result ≡ record_reference_of t.now }
@@ -82,10 +74,10 @@ fn rights(t: &[u8], p: usize) -> Rights
 }
 
 #[tactic(auto, unfolding(crate::specs::Reading::requests_of))]
-fn requests(t: &[u8], p: usize) -> Requests
+fn requests(t: &[u8], p: usize) -> ByService<Request>
     ensures { result ≡ requests_of p t.now }
 {
-    Requests {
+    ByService {
         one: request_in(octet_at(t, p, 0)),
         two: request_in(octet_at(t, p, 1)),
         three: request_in(octet_at(t, p, 2)),
@@ -93,10 +85,10 @@ fn requests(t: &[u8], p: usize) -> Requests
 }
 
 #[tactic(auto, unfolding(crate::specs::Reading::answers_of))]
-fn answers(t: &[u8], p: usize) -> Answers
+fn answers(t: &[u8], p: usize) -> ByService<Given>
     ensures { result ≡ answers_of p t.now }
 {
-    Answers {
+    ByService {
         one: given_in(octet_at(t, p, 0)),
         two: given_in(octet_at(t, p, 1)),
         three: given_in(octet_at(t, p, 2)),
@@ -164,29 +156,29 @@ fn taken(k: RecordKind, t: &[u8]) -> Entry
     }
 }
 
-fn read_kind(k: RecordKind, t: &[u8]) -> Record
-    ensures { result ≡ named_of (NamedKind.Known k) t.now }
+fn read_kind(k: RecordKind, t: &[u8]) -> Option<Result<Entry, Fault>>
+    ensures { result ≡ named_of (Some k) t.now }
 {
     if t.len() < size(k) {
-        return Record::Refused(Fault::Short);
+        return Some(Err(Fault::Short));
     }
     match first_out(layout_of(k), t) {
-        Tested::InRange => Record::Taken(taken(k, t)),
-        Tested::Out(f) => Record::Refused(Fault::Range(f)),
+        None => Some(Ok(taken(k, t))),
+        Some(f) => Some(Err(Fault::Range(f))),
     }
 }
 
 // The record at the front of a trace.
 #[tactic(auto, unfolding(crate::specs::Reading::record_of))]
-pub fn read_record(t: &[u8]) -> Record
+pub fn read_record(t: &[u8]) -> Option<Result<Entry, Fault>>
     ensures { result ≡ record_of t.now }
 {
     if t.len() == 0 {
-        return Record::End;
+        return None;
     }
     match record_kind_in(t[0]) {
-        NamedKind::Unknown => Record::Refused(Fault::Kind),
-        NamedKind::Known(k) => read_kind(k, t),
+        None => Some(Err(Fault::Kind)),
+        Some(k) => read_kind(k, t),
     }
 }
 

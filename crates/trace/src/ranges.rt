@@ -9,39 +9,33 @@ use crate::kind::Layout;
 use crate::values::octet_at;
 use rights::Service;
 
-#[derive(Clone, Copy)]
-pub enum Tested {
-    InRange,
-    Out(Field),
-}
-
 // The first of two tests that found a field out of range.
-fn first(a: Tested, b: Tested) -> Tested
+fn first(a: Option<Field>, b: Option<Field>) -> Option<Field>
     ensures { result ≡ first_of a b }
 {
     match a {
-        Tested::InRange => b,
-        Tested::Out(f) => Tested::Out(f),
+        None => b,
+        Some(f) => Some(f),
     }
 }
 
 // An octet of the field at a place, held to the most that it may be.
 #[tactic(auto, unfolding(crate::specs::Ranges::up_to_of))]
-fn up_to(t: &[u8], f: Field, most: u8, p: usize, i: usize) -> Tested
+fn up_to(t: &[u8], f: Field, most: u8, p: usize, i: usize) -> Option<Field>
     ensures { result ≡ up_to_of f most p i t.now }
 {
     if p == 0 {
-        return Tested::InRange;
+        return None;
     }
     if octet_at(t, p, i) > most {
-        Tested::Out(f)
+        Some(f)
     } else {
-        Tested::InRange
+        None
     }
 }
 
 // Three requests or answers.
-fn three(t: &[u8], a: Field, b: Field, c: Field, p: usize) -> Tested
+fn three(t: &[u8], a: Field, b: Field, c: Field, p: usize) -> Option<Field>
     ensures { result ≡ first_of (up_to_of a 2 p 0 t.now) (first_of (up_to_of b 2 p 1 t.now) (up_to_of c 2 p 2 t.now)) }
 {
     let one = up_to(t, a, 2, p, 0);
@@ -51,7 +45,7 @@ fn three(t: &[u8], a: Field, b: Field, c: Field, p: usize) -> Tested
 }
 
 #[tactic(auto, unfolding(crate::specs::Ranges::three_of))]
-fn requests_out(t: &[u8], p: usize) -> Tested
+fn requests_out(t: &[u8], p: usize) -> Option<Field>
     ensures { result ≡ three_of Field.Request p t.now }
 {
     three(
@@ -64,7 +58,7 @@ fn requests_out(t: &[u8], p: usize) -> Tested
 }
 
 #[tactic(auto, unfolding(crate::specs::Ranges::three_of))]
-fn answers_out(t: &[u8], p: usize) -> Tested
+fn answers_out(t: &[u8], p: usize) -> Option<Field>
     ensures { result ≡ three_of Field.Answer p t.now }
 {
     three(
@@ -77,23 +71,23 @@ fn answers_out(t: &[u8], p: usize) -> Tested
 }
 
 #[tactic(auto, unfolding(crate::specs::Ranges::element_out_of))]
-fn element_out(t: &[u8], p: usize) -> Tested
+fn element_out(t: &[u8], p: usize) -> Option<Field>
     ensures { result ≡ element_out_of p t.now }
 {
     if form_fits(t, p) {
         if zeros_fit(t, p) {
-            Tested::InRange
+            None
         } else {
-            Tested::Out(Field::Zeros)
+            Some(Field::Zeros)
         }
     } else {
-        Tested::Out(Field::Element)
+        Some(Field::Element)
     }
 }
 
 // The first field of a record, from left to right, that is out of range.
 #[tactic(auto, unfolding(crate::specs::Ranges::first_out_of))]
-pub(crate) fn first_out(l: Layout, t: &[u8]) -> Tested
+pub(crate) fn first_out(l: Layout, t: &[u8]) -> Option<Field>
     ensures { result ≡ first_out_of l t.now }
 {
     let late = up_to(t, Field::Late, 1, l.rights, 1);

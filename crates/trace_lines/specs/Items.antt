@@ -1,17 +1,16 @@
 -- What a message says, as `explain` prints it: each `-` for no message, or these items joined by `,` in this order.
+use Rattle.std.specs.Prelude.{Option, Some, None}
 use Rattle.std.specs.Prelude.{ℕ, List, [], ◌∷◌, ◌++◌, Bool, true, false}
-use Rattle.cause.specs.declared.Cause.{Cause}
 use Rattle.services.specs.declared.Said.{Said}
 use Rattle.sent.specs.declared.Level.{Level}
 use Rattle.sent.specs.declared.Message.{Message}
-use Rattle.sent.specs.declared.Sent.{Sent}
 use Rattle.text.specs.Decimal.{decimal_of}
 use Rattle.text.specs.Columns.{dash}
 
 -- `cause.N`
-abbrev pub cause_item : Cause → List (List ℕ)
-cause_item Cause.Absent = []
-cause_item (Cause.Value n) = (99 ∷ 97 ∷ 117 ∷ 115 ∷ 101 ∷ 46 ∷ decimal_of n) ∷ []
+abbrev pub cause_item : Option ℕ → List (List ℕ)
+cause_item None = []
+cause_item (Some n) = (99 ∷ 97 ∷ 117 ∷ 115 ∷ 101 ∷ 46 ∷ decimal_of n) ∷ []
 
 -- `ready` or `notready`
 abbrev pub level_item : Level → List (List ℕ)
@@ -56,6 +55,6 @@ joined [] = 98 ∷ 97 ∷ 114 ∷ 101 ∷ []
 joined (i ∷ is) = i ++ commas is
 
 -- each `-` for no message
-abbrev pub message_column : Sent → List ℕ
-message_column Sent.Absent = dash
-message_column (Sent.Present m) = joined (items_of m)
+abbrev pub message_column : Option Message → List ℕ
+message_column None = dash
+message_column (Some m) = joined (items_of m)

@@ -1,7 +1,8 @@
 -- What `replay` and `explain` print of a record.
+use Rattle.std.specs.Prelude.{Option, Some, None}
+use Rattle.sent.specs.declared.Message.{Message}
 use Rattle.std.specs.Prelude.{ℕ, List, [], ◌∷◌, ◌++◌, Bool, true, false}
 use Rattle.user_element.specs.Element.{note_number_of}
-use Rattle.sent.specs.declared.Sent.{Sent}
 use Rattle.message_types.specs.Kind.{kind_octet}
 use Rattle.trace.specs.Kind.{record_kind_octet}
 use Rattle.text.specs.Decimal.{decimal_of}
@@ -11,9 +12,9 @@ use Rattle.trace_lines.specs.Items.{message_column}
 use Rattle.trace_lines.specs.declared.report.Columns.{Columns}
 
 -- "the last two columns the type sent in hexadecimal or `-`"
-abbrev pub type_column : Sent → List ℕ
-type_column Sent.Absent = dash
-type_column (Sent.Present m) = hex_of (kind_octet m.kind)
+abbrev pub type_column : Option Message → List ℕ
+type_column None = dash
+type_column (Some m) = hex_of (kind_octet m.kind)
 
 -- a line is the line of `replay` and two more columns: only where the messages are explained
 abbrev pub said_columns : Bool → Columns → List ℕ

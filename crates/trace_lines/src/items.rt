@@ -5,9 +5,8 @@ ghost use Rattle.text.specs.Pieces.{Piece};
 ghost use Rattle.text.specs.Columns.{column};
 ghost use Rattle.trace_lines.specs.Items.{cause_item, level_item, said_item, more_item, element_item, items_of, commas, joined, message_column};
 
-use cause::Cause;
-use memory::{Wrote, end_of, write_octets};
-use sent::{Level, Message, Sent};
+use memory::{Bar, end_of, write_octets};
+use sent::{Level, Message};
 use services::Said;
 use text::decimal::write_decimal;
 
@@ -19,13 +18,13 @@ pub(crate) fn put(buf: &mut [u8], at: usize, piece: &[u8]) -> usize
 }
 
 #[tactic(auto, unfolding(crate::specs::Items::commas))]
-fn put_cause(buf: &mut [u8], at: usize, c: Cause) -> usize
+fn put_cause(buf: &mut [u8], at: usize, c: Option<u8>) -> usize
     requires { at + 27 ≤ length buf.old }
     ensures { Piece 27 at (commas (cause_item c)) buf.old buf.new result }
 {
     match c {
-        Cause::Absent => at,
-        Cause::Value(n) => {
+        None => at,
+        Some(n) => {
             let a = put(buf, at, b",cause.");
             end_of(write_decimal(buf, a, n as u64))
         }
@@ -122,25 +121,25 @@ fn put_message(buf: &mut [u8], at: usize, m: Message) -> usize
     end
 }
 
-fn put_sent(buf: &mut [u8], at: usize, s: Sent) -> usize
+fn put_sent(buf: &mut [u8], at: usize, s: Option<Message>) -> usize
     requires { at + 79 ≤ length buf.old }
     ensures { Piece 79 at (column (message_column s)) buf.old buf.new result }
 {
     match s {
-        Sent::Absent => put(buf, at, b" -"),
-        Sent::Present(m) => put_message(buf, at, m),
+        None => put(buf, at, b" -"),
+        Some(m) => put_message(buf, at, m),
     }
 }
 
 // Writes the column of what is sent to a user; where it does not fit, nothing. Near the buffer's end it is laid out
 // apart first, since how long it is shows only when it is there.
-pub(crate) fn write_sent(buf: &mut [u8], at: usize, s: Sent) -> Wrote
+pub(crate) fn write_sent(buf: &mut [u8], at: usize, s: Option<Message>) -> Result<usize, Bar>
     ensures written { Written true at (column (message_column s)) buf.old buf.new result }
     ensures small { length (column (message_column s)) ≤ 79 }
 {
     if at <= buf.len() {
         if buf.len() - at >= 79 {
-            return Wrote::To(put_sent(buf, at, s));
+            return Ok(put_sent(buf, at, s));
         }
     }
     let mut piece = [0u8; 79];

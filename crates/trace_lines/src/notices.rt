@@ -3,11 +3,11 @@ ghost use Rattle.std.specs.Prelude.{true};
 ghost use Rattle.memory.specs.Room.{Written};
 ghost use Rattle.trace_lines.specs.Notices.{first_line, fault_line};
 
-use memory::{Wrote, write_octets};
+use memory::{Bar, write_octets};
 use trace::Fault;
 
 // Writes the line that comes before all others.
-pub fn write_first(buf: &mut [u8], at: usize, explained: bool) -> Wrote
+pub fn write_first(buf: &mut [u8], at: usize, explained: bool) -> Result<usize, Bar>
     ensures { Written true at (first_line explained) buf.old buf.new result }
 {
     if explained {
@@ -22,7 +22,7 @@ pub fn write_first(buf: &mut [u8], at: usize, explained: bool) -> Wrote
 
 // Writes the line that ends a run at a fault of the trace.
 #[tactic(auto, unfolding(text::specs::Decimal::decimal_of, text::specs::Decimal::digits_of))]
-pub fn write_fault(buf: &mut [u8], at: usize, f: Fault) -> Wrote
+pub fn write_fault(buf: &mut [u8], at: usize, f: Fault) -> Result<usize, Bar>
     ensures { Written true at (fault_line f) buf.old buf.new result }
 {
     match f {

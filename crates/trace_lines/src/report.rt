@@ -9,9 +9,9 @@ ghost use Rattle.trace_lines.specs.Line.{type_column, said_columns, number_colum
 
 use crate::items::write_sent;
 use answer::note_number;
-use memory::{Wrote, end_of, write_octets};
+use memory::{Bar, end_of, write_octets};
 use message_types::kind_octet;
-use sent::Sent;
+use sent::Message;
 use sent::dispatch::Dispatch;
 use text::decimal::write_decimal;
 use text::hex::write_hex;
@@ -28,17 +28,17 @@ pub struct Columns {
     pub dispatch: Dispatch,
 }
 
-fn put_type(buf: &mut [u8], at: usize, s: Sent) -> usize
+fn put_type(buf: &mut [u8], at: usize, s: Option<Message>) -> usize
     requires { at + 3 ≤ length buf.old }
     ensures { Piece 3 at (column (type_column s)) buf.old buf.new result }
 {
     buf[at] = b' ';
     match s {
-        Sent::Absent => {
+        None => {
             buf[at + 1] = b'-';
             at + 2
         }
-        Sent::Present(m) => {
+        Some(m) => {
             let kind = m.kind;
             end_of(write_hex(buf, at + 1, kind_octet(kind)))
         }
@@ -126,12 +126,12 @@ fn put_line(buf: &mut [u8], at: usize, explained: bool, o: Columns) -> usize
 
 // Writes the line of a record; where it does not fit, nothing. Near the buffer's end it is laid out apart first, since
 // how long it is shows only when it is there.
-pub fn write_line(buf: &mut [u8], at: usize, explained: bool, o: Columns) -> Wrote
+pub fn write_line(buf: &mut [u8], at: usize, explained: bool, o: Columns) -> Result<usize, Bar>
     ensures { Written true at (line_of explained o) buf.old buf.new result }
 {
     if at <= buf.len() {
         if buf.len() - at >= 248 {
-            return Wrote::To(put_line(buf, at, explained, o));
+            return Ok(put_line(buf, at, explained, o));
         }
     }
     let mut line = [0u8; 248];

@@ -6,7 +6,7 @@ ghost use Rattle.text.specs.Pieces.{Piece};
 ghost use Rattle.trace_lines.specs.Words.{service_digit, field_name, fault_words, place_words, words_of};
 
 use crate::items::put;
-use memory::{Wrote, end_of, write_octets};
+use memory::{Bar, end_of, write_octets};
 use rights::Service;
 use text::decimal::write_decimal;
 use trace::{Fault, Field};
@@ -94,7 +94,13 @@ fn put_words(buf: &mut [u8], at: usize, number: u64, octet: u64, f: Fault) -> us
 
 // Writes what is said of a fault; where it does not fit, nothing. number: which record is faulty, from 1;
 // octet: where it begins in the trace.
-pub fn write_words(buf: &mut [u8], at: usize, number: u64, octet: u64, f: Fault) -> Wrote
+pub fn write_words(
+    buf: &mut [u8],
+    at: usize,
+    number: u64,
+    octet: u64,
+    f: Fault,
+) -> Result<usize, Bar>
     ensures { Written true at (words_of number octet f) buf.old buf.new result }
 {
     let mut line = [0u8; 100];

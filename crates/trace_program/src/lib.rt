@@ -8,7 +8,6 @@ use streams::{Host, fetch, held, say, send};
 use trace::Fault;
 use trace_lines::notices::write_first;
 use trace_lines::words::write_words;
-use trace_run::turn::Ending;
 use trace_run::work_off;
 
 // The octets of the trace that the buffer holds, from one place to another, and the calls. records and octets: how many
@@ -54,13 +53,13 @@ fn refill(rt: &impl Host, buf: &mut [u8], h: Held) -> Held {
 
 // Whether the run goes on. Where a fault ended it, that is said of the record after so many records and octets; where
 // the lines did not go out, it was said why, and no more is.
-fn told(rt: &impl Host, sent: bool, end: Ending, records: u64, octets: u64) -> bool {
+fn told(rt: &impl Host, sent: bool, end: Option<Fault>, records: u64, octets: u64) -> bool {
     if !sent {
         return false;
     }
     match end {
-        Ending::Open => true,
-        Ending::By(f) => {
+        None => true,
+        Some(f) => {
             complain(rt, f, records.wrapping_add(1), octets);
             false
         }

@@ -1,4 +1,12 @@
 -- No message of a reply has a cause over 127.
+use Rattle.std.specs.Prelude.{Option, Some, None, Result, Ok, Err}
+use Rattle.sent.specs.declared.Message.{Message}
+use Rattle.rights.specs.declared.Service.{Service}
+use Rattle.table.specs.declared.verdict.Verdict.{Verdict}
+use Rattle.services.specs.declared.ByService.{ByService}
+use Rattle.services.specs.declared.Request.{Request}
+use Rattle.services.specs.declared.Said.{Said}
+use Rattle.answering_rules.specs.declared.Fate.{Fate}
 use Prim.Native.Nat.{ℕ, ◌≤◌}
 use mathlib.Core.List.{List}
 use mathlib.Core.Bool.{Bool, true, false, cond}
@@ -7,21 +15,15 @@ use native.Mathlib.Omega.{arith}
 use borrow.Author.Tests.{leb-true}
 use lib.Dec.{leb}
 use Rattle.flow_meter.specs.declared.passage.Passage.{Passage}
-use Rattle.cause.specs.declared.Cause.{Cause}
 use Rattle.user_element.specs.declared.Note.{Note}
 use Rattle.user_element.specs.declared.Seen.{Seen}
 use Rattle.rights.specs.declared.Rights.{Rights}
-use Rattle.services.specs.declared.Facilities.{Facilities}
-use Rattle.answering_rules.specs.declared.Fates.{Fates}
-use Rattle.services.specs.declared.Requests.{Requests}
 use Rattle.user_element.specs.Element.{whole_of}
 use Rattle.setup_rules.specs.Requests.{lacks_of, to_caller_of, to_called_of}
 use Rattle.answering_rules.specs.Effects.{failed_of}
 use Rattle.answer.specs.declared.Answer.{Answer}
 use Rattle.message_types.specs.declared.Kind.{Kind}
 use Rattle.sent.specs.declared.Level.{Level}
-use Rattle.sent.specs.declared.Sent.{Sent}
-use Rattle.sent.specs.declared.dispatch.Carrier.{Carrier}
 use Rattle.phases.specs.declared.Phase.{Phase}
 use Rattle.sent.specs.declared.side.Side.{Side}
 use Rattle.answer.specs.Answer.{taken_of}
@@ -39,7 +41,6 @@ use Rattle.call.specs.Facility.{passes_facility_of, facility_of}
 use Rattle.call.specs.Disconnect.{passed_on_of, disconnect_of, ends_of, release_complete_of}
 use Rattle.call.specs.Tick.{passes_tick_of, tick_of}
 use Rattle.call.specs.Step.{not_an_event_of, step_of}
-use Rattle.table.specs.declared.choice.Choice.{Choice}
 use Rattle.table.specs.declared.settle.Outcome.{Outcome}
 use Rattle.table.specs.Settle.{settled_of, table_refusal_of, heard_outcome_of}
 use Rattle.table.specs.Step.{outcome_at, step_outcome}
@@ -48,13 +49,13 @@ use Rattle.flow_meter.specs.CallMeters.{ready_of}
 use Rattle.table.specs.Choice.{chosen_of}
 
 -- causes, messages and replies with causes up to 127
-abbrev pub CauseIn : Cause → Type 0
-CauseIn Cause.Absent = Unit {0}
-CauseIn (Cause.Value n) = n ≤ 127
+abbrev pub CauseIn : Option ℕ → Type 0
+CauseIn None = Unit {0}
+CauseIn (Some n) = n ≤ 127
 
-abbrev pub SentIn : Sent → Type 0
-SentIn Sent.Absent = Unit {0}
-SentIn (Sent.Present m) = CauseIn m.cause
+abbrev pub SentIn : Option Message → Type 0
+SentIn None = Unit {0}
+SentIn (Some m) = CauseIn m.cause
 
 record Says (r : Reply) : Type 0 where
   calling : SentIn r.dispatch.calling
@@ -68,7 +69,7 @@ heard_says : (c : Call) (bar : Answer) (r : Reply) → (taken_of bar ≡ true �
 unfolding heard_of
 heard_says c bar r h = by_cond Says (taken_of bar) h (λ _. refused_says c bar Note.Clear)
 
-saying_in : (kind : Kind) (cause : Cause) (said : Facilities) (element : Bool) → CauseIn cause → SentIn (saying_of kind cause said element)
+saying_in : (kind : Kind) (cause : Option ℕ) (said : ByService Said) (element : Bool) → CauseIn cause → SentIn (saying_of kind cause said element)
 unfolding saying_of
 saying_in kind cause said element h = h
 
@@ -80,16 +81,16 @@ informs_in : (more : Bool) → SentIn (informs_of more)
 unfolding informs_of
 informs_in more = tt
 
-only_in : (b : Bool) (s : Sent) → SentIn s → SentIn (only_if_of b s)
+only_in : (b : Bool) (s : Option Message) → SentIn s → SentIn (only_if_of b s)
 unfolding only_if_of
 only_in b s h = by_cond SentIn b (λ _. h) (λ _. tt)
 
-side_says : (side : Side) (c : Call) (a : Answer) (n : Note) (back on : Sent) (x : Carrier) → SentIn back → SentIn on → Says (reply_of side c a n back on x)
+side_says : (side : Side) (c : Call) (a : Answer) (n : Note) (back on : Option Message) (x : Option Service) → SentIn back → SentIn on → Says (reply_of side c a n back on x)
 unfolding reply_of
 side_says Side.Calling c a n back on x p q = record { calling = p; called = q }
 side_says Side.Called c a n back on x p q = record { calling = q; called = p }
 
-setup_says_lem : (reference : ℕ) (rights : Rights) (q : Requests) (seen : Seen) → Says (proceeds_of reference rights q seen)
+setup_says_lem : (reference : ℕ) (rights : Rights) (q : ByService Request) (seen : Seen) → Says (proceeds_of reference rights q seen)
 unfolding proceeds_of to_caller_of to_called_of
 setup_says_lem reference rights q seen =
     record {
@@ -97,12 +98,12 @@ setup_says_lem reference rights q seen =
       called = by_cond SentIn (lacks_of rights q) (λ _. tt) (λ _. saying_in _ _ _ _ tt);
     }
 
-outcome_says : (c : Call) (kind : Kind) (next : Phase) (f : Fates) (seen : Seen) (x : Bool) → Says (answering_of c kind next f seen x)
+outcome_says : (c : Call) (kind : Kind) (next : Phase) (f : ByService Fate) (seen : Seen) (x : Bool) → Says (answering_of c kind next f seen x)
 unfolding goes_on_of clears_of bare_of
 outcome_says c kind next f seen false = record { calling = saying_in _ _ _ _ tt; called = tt }
 outcome_says c kind next f seen true = record { calling = saying_in _ _ _ _ (omega arith); called = saying_in _ _ _ _ (omega arith) }
 
-answered_says : (c : Call) (kind : Kind) (next : Phase) (f : Fates) (l : List ℕ) → Says (answered_of c kind next f l)
+answered_says : (c : Call) (kind : Kind) (next : Phase) (f : ByService Fate) (l : List ℕ) → Says (answered_of c kind next f l)
 unfolding answered_of
 answered_says c kind next f l = outcome_says c kind next f _ (failed_of f)
 
@@ -150,10 +151,10 @@ pub record Tells (o : Outcome) : Type 0 where
   pub calling : SentIn o.dispatch.calling
   pub called : SentIn o.dispatch.called
 
-chosen_tells : (calls : List Call) (x : Choice) (e : Event) (l : List ℕ) → Tells (outcome_at calls x e l)
+chosen_tells : (calls : List Call) (x : Result ℕ Verdict) (e : Event) (l : List ℕ) → Tells (outcome_at calls x e l)
 unfolding settled_of heard_outcome_of table_refusal_of
-chosen_tells calls (Choice.At i) e l = let s = says _ e l in record { calling = s.calling; called = s.called }
-chosen_tells calls (Choice.Refused v) e l = record { calling = tt; called = tt }
+chosen_tells calls (Ok i) e l = let s = says _ e l in record { calling = s.calling; called = s.called }
+chosen_tells calls (Err v) e l = record { calling = tt; called = tt }
 
 pub tells : (calls : List Call) (n : ℕ) (e : Event) (l : List ℕ) → Tells (step_outcome calls n e l)
 unfolding step_outcome

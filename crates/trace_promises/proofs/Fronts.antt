@@ -1,4 +1,5 @@
 -- A record that is whole at the front of a piece is the one at the front of the piece with whatever comes after it.
+use Rattle.std.specs.Prelude.{Option, Some, None, Result, Ok, Err}
 use Prim.Native.Nat.{ℕ, ◌+◌, ◌<◌, ◌≤◌}
 use mathlib.Core.List.{List, [], ◌∷◌, ◌++◌}
 use mathlib.Core.Logic.{⊎_elim}
@@ -11,13 +12,10 @@ use lib.ListN.{length, get_or, drop, length-append, length-drop, get_or-append}
 use lib.Seq.{take-append-le, drop-append-le}
 use Rattle.rights.specs.declared.Service.{Service}
 use Rattle.trace.specs.declared.kind.RecordKind.{RecordKind}
-use Rattle.trace.specs.declared.kind.NamedKind.{NamedKind}
 use Rattle.trace.specs.declared.Entry.{Entry}
 use Rattle.trace.specs.declared.Fault.{Fault}
-use Rattle.trace.specs.declared.Record.{Record}
 use Rattle.trace.specs.declared.Field.{Field}
 use Rattle.trace.specs.declared.kind.Layout.{Layout}
-use Rattle.trace.specs.declared.ranges.Tested.{Tested}
 use Rattle.trace.specs.Kind.{record_kind_of, layout_of, size_of}
 use Rattle.trace.specs.ElementField.{form_fits_of, zeros_fit_of}
 use Rattle.trace.specs.Ranges.{up_to_of, three_of, element_out_of, first_out_of}
@@ -29,12 +27,12 @@ use Rattle.trace.proofs.Rows.{least}
 use Rattle.trace_promises.proofs.Ranged.{in_range_lem}
 
 -- an end and a record that is cut short may become another record; all others stay
-abbrev Stays : Record → Type 0
-Stays Record.End = ⊥
-Stays (Record.Taken e) = Unit {0}
-Stays (Record.Refused Fault.Kind) = Unit {0}
-Stays (Record.Refused Fault.Short) = ⊥
-Stays (Record.Refused (Fault.Range f)) = Unit {0}
+abbrev Stays : Option (Result Entry Fault) → Type 0
+Stays None = ⊥
+Stays (Some (Ok e)) = Unit {0}
+Stays (Some (Err Fault.Kind)) = Unit {0}
+Stays (Some (Err Fault.Short)) = ⊥
+Stays (Some (Err (Fault.Range f))) = Unit {0}
 
 -- every field that is held to a range stands in the record
 record Inside (l : Layout) : Type 0 where
@@ -74,7 +72,7 @@ module _ (t more : List ℕ) where
   unfolding three_of
   same_three f p h = rw (same_up_to (f Service.One) 2 p 0 (omega arith), same_up_to (f Service.Two) 2 p 1 (omega arith), same_up_to (f Service.Three) 2 p 2 h)
 
-  no_element : (s : List ℕ) → element_out_of 0 s ≡ Tested.InRange
+  no_element : (s : List ℕ) → element_out_of 0 s ≡ None
   unfolding element_out_of form_fits_of zeros_fit_of
   no_element s = refl
 
@@ -156,19 +154,19 @@ module _ (t more : List ℕ) where
   unfolding entry_of
   same_entry k h = rw (same_reference (omega (arith, least k)), same_event k h, same_count k h)
 
-  kind_stays : (k : RecordKind) (a : Bool) → ltb (length t) (size_of k) ≡ a → Stays (cond a (Record.Refused Fault.Short) (whole_of (first_out_of (layout_of k) t) (entry_of k t))) → named_of (NamedKind.Known k) (t ++ more) ≡ named_of (NamedKind.Known k) t
+  kind_stays : (k : RecordKind) (a : Bool) → ltb (length t) (size_of k) ≡ a → Stays (cond a (Some (Err Fault.Short)) (whole_of (first_out_of (layout_of k) t) (entry_of k t))) → named_of (Some k) (t ++ more) ≡ named_of (Some k) t
   kind_stays k true e s = absurd s
   kind_stays k false e s =
       let h = ltb-false (length t) (size_of k) e in
       let g = le-ltb (length (t ++ more)) (size_of k) (rw length-append (omega arith)) in
       rw (g, e, same_ranged k h, same_entry k h)
 
-  named_stays : (n : NamedKind) → Stays (named_of n t) → named_of n (t ++ more) ≡ named_of n t
-  named_stays NamedKind.Unknown s = refl
-  named_stays (NamedKind.Known k) s = kind_stays k (ltb (length t) (size_of k)) refl s
+  named_stays : (n : Option RecordKind) → Stays (named_of n t) → named_of n (t ++ more) ≡ named_of n t
+  named_stays None s = refl
+  named_stays (Some k) s = kind_stays k (ltb (length t) (size_of k)) refl s
 
 -- none at the end of a trace
-pub record_none : record_of [] ≡ Record.End
+pub record_none : record_of [] ≡ None
 unfolding record_of
 record_none = refl
 
@@ -183,18 +181,18 @@ stays (x ∷ t) more s = record_some x (t ++ more) ∙ named_stays (x ∷ t) mor
 -- a record that is taken
 pub record Whole (t : List ℕ) (e : Entry) : Type 0 where
   pub kind : RecordKind
-  pub named : record_kind_of (get_or t 0 0) ≡ NamedKind.Known kind
+  pub named : record_kind_of (get_or t 0 0) ≡ Some kind
   pub entry : e ≡ entry_of kind t
   pub within : size_of kind ≤ length t
-  pub ranged : first_out_of (layout_of kind) t ≡ Tested.InRange
+  pub ranged : first_out_of (layout_of kind) t ≡ None
 
 -- what each answer says of the octets
-abbrev pub Told : List ℕ → Record → Type 0
-Told t Record.End = t ≡ []
-Told t (Record.Taken e) = Whole t e
-Told t (Record.Refused Fault.Kind) = Unit {0}
-Told t (Record.Refused Fault.Short) = length t ≤ 143
-Told t (Record.Refused (Fault.Range f)) = Unit {0}
+abbrev pub Told : List ℕ → Option (Result Entry Fault) → Type 0
+Told t None = t ≡ []
+Told t (Some (Ok e)) = Whole t e
+Told t (Some (Err Fault.Kind)) = Unit {0}
+Told t (Some (Err Fault.Short)) = length t ≤ 143
+Told t (Some (Err (Fault.Range f))) = Unit {0}
 
 largest : (k : RecordKind) → size_of k ≤ 144
 largest RecordKind.Setup = omega arith
@@ -206,14 +204,14 @@ largest RecordKind.Disconnect = omega arith
 largest RecordKind.ReleaseComplete = omega arith
 largest RecordKind.Tick = omega arith
 
-kind_told : (t : List ℕ) (k : RecordKind) (a : Bool) (x : Tested) → record_kind_of (get_or t 0 0) ≡ NamedKind.Known k → ltb (length t) (size_of k) ≡ a → first_out_of (layout_of k) t ≡ x → Told t (cond a (Record.Refused Fault.Short) (whole_of x (entry_of k t)))
+kind_told : (t : List ℕ) (k : RecordKind) (a : Bool) (x : Option Field) → record_kind_of (get_or t 0 0) ≡ Some k → ltb (length t) (size_of k) ≡ a → first_out_of (layout_of k) t ≡ x → Told t (cond a (Some (Err Fault.Short)) (whole_of x (entry_of k t)))
 kind_told t k true x n e f = let h = ltb-true (length t) (size_of k) e in let g = largest k in omega arith
-kind_told t k false Tested.InRange n e f = record { kind = k; named = n; entry = refl; within = ltb-false (length t) (size_of k) e; ranged = f }
-kind_told t k false (Tested.Out g) n e f = tt
+kind_told t k false None n e f = record { kind = k; named = n; entry = refl; within = ltb-false (length t) (size_of k) e; ranged = f }
+kind_told t k false (Some g) n e f = tt
 
-named_told : (t : List ℕ) (n : NamedKind) → record_kind_of (get_or t 0 0) ≡ n → Told t (named_of n t)
-named_told t NamedKind.Unknown e = tt
-named_told t (NamedKind.Known k) e = kind_told t k (ltb (length t) (size_of k)) (first_out_of (layout_of k) t) e refl refl
+named_told : (t : List ℕ) (n : Option RecordKind) → record_kind_of (get_or t 0 0) ≡ n → Told t (named_of n t)
+named_told t None e = tt
+named_told t (Some k) e = kind_told t k (ltb (length t) (size_of k)) (first_out_of (layout_of k) t) e refl refl
 
 pub told : (t : List ℕ) → Told t (record_of t)
 told [] = rw record_none refl

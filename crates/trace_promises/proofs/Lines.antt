@@ -1,18 +1,17 @@
 -- The line of a record has at most 143 octets.
+use Rattle.std.specs.Prelude.{Option, Some, None}
 use Prim.Native.Nat.{ℕ, suc, ◌+◌, ◌≤◌}
 use mathlib.Core.List.{List, [], ◌∷◌, ◌++◌}
 use mathlib.Core.Bool.{Bool, true, false}
 use mathlib.Core.Path.{◌≡◌, refl}
 use native.Mathlib.Omega.{arith}
 use lib.ListN.{length, length-append}
-use Rattle.cause.specs.declared.Cause.{Cause}
 use Rattle.user_element.specs.declared.Note.{Note}
 use Rattle.services.specs.declared.Said.{Said}
 use Rattle.user_element.specs.Element.{note_number_of}
 use Rattle.answer.specs.declared.Answer.{Answer}
 use Rattle.sent.specs.declared.Level.{Level}
 use Rattle.sent.specs.declared.Message.{Message}
-use Rattle.sent.specs.declared.Sent.{Sent}
 use Rattle.answer.specs.Answer.{number_of}
 use Rattle.call.specs.declared.Call.{Call}
 use Rattle.table.specs.declared.verdict.Verdict.{Verdict}
@@ -58,9 +57,9 @@ joined_short (i ∷ is) n h k = omega arith
 few : (n : ℕ) → n ≤ 127 → length (decimal_of n) ≤ 3
 few n h = at_most 2 n (omega arith)
 
-cause_item_lem : (c : Cause) → CauseIn c → length (commas (cause_item c)) ≤ 10
-cause_item_lem Cause.Absent h = rw no_items (omega arith)
-cause_item_lem (Cause.Value n) h = let f = few n h in rw one_item (omega arith)
+cause_item_lem : (c : Option ℕ) → CauseIn c → length (commas (cause_item c)) ≤ 10
+cause_item_lem None h = rw no_items (omega arith)
+cause_item_lem (Some n) h = let f = few n h in rw one_item (omega arith)
 
 level_item_lem : (l : Level) → length (commas (level_item l)) ≤ 9
 level_item_lem Level.Absent = rw no_items (omega arith)
@@ -95,9 +94,9 @@ items_short m h =
     let g = element_item_lem m.element in
     simp commas_then (omega arith)
 
-message_short : (s : Sent) → SentIn s → length (message_column s) ≤ 61
-message_short Sent.Absent h = omega arith
-message_short (Sent.Present m) h = joined_short (items_of m) 61 (items_short m h) (omega arith)
+message_short : (s : Option Message) → SentIn s → length (message_column s) ≤ 61
+message_short None h = omega arith
+message_short (Some m) h = joined_short (items_of m) 61 (items_short m h) (omega arith)
 
 -- the other columns
 kind_small : (k : RecordKind) → record_kind_octet k ≤ 9
@@ -135,9 +134,9 @@ note_small Note.Malformed = omega arith
 note_small Note.TooLong = omega arith
 note_small Note.NotCarried = omega arith
 
-type_short : (s : Sent) → length (type_column s) ≤ 2
-type_short Sent.Absent = omega arith
-type_short (Sent.Present m) = omega arith
+type_short : (s : Option Message) → length (type_column s) ≤ 2
+type_short None = omega arith
+type_short (Some m) = omega arith
 
 -- the columns of a line
 pub record ColumnsIn (o : Columns) : Type 0 where

@@ -1,4 +1,5 @@
 -- What a record of a trace means.
+use Rattle.std.specs.Prelude.{Option, Some, None}
 use Prim.Native.Nat.{ℕ, zero, suc, ◌+◌, ◌≤◌}
 use mathlib.Core.List.{List}
 use mathlib.Core.Bool.{true}
@@ -10,7 +11,6 @@ use lib.ListN.{length, get_or, take, drop}
 use Rattle.logic.proofs.Decide.{by_cond}
 use Rattle.memory.specs.Stretch.{stretch_of}
 use Rattle.trace.specs.declared.kind.RecordKind.{RecordKind}
-use Rattle.trace.specs.declared.kind.NamedKind.{NamedKind}
 use Rattle.trace.specs.declared.Entry.{Entry}
 use Rattle.trace.specs.Kind.{record_kind_of, layout_of, size_of}
 use Rattle.trace.specs.Values.{flag_of, side_of, request_of, given_of, what_of}
@@ -22,7 +22,7 @@ use Rattle.trace_promises.proofs.Fronts.{Whole, within_it}
 use Rattle.trace_promises.proofs.Making.{taken, none_left}
 
 -- ---- kinds
-known : (k : RecordKind) → record_kind_of (kind_number k) ≡ NamedKind.Known k
+known : (k : RecordKind) → record_kind_of (kind_number k) ≡ Some k
 unfolding record_kind_of
 known RecordKind.Setup = refl
 known RecordKind.Alerting = refl
@@ -33,18 +33,18 @@ known RecordKind.Disconnect = refl
 known RecordKind.ReleaseComplete = refl
 known RecordKind.Tick = refl
 
-abbrev number_in : NamedKind → ℕ
-number_in NamedKind.Unknown = 0
-number_in (NamedKind.Known k) = kind_number k
+abbrev number_in : Option RecordKind → ℕ
+number_in None = 0
+number_in (Some k) = kind_number k
 
-abbrev Only : ℕ → NamedKind → Type 0
-Only x n = (k : RecordKind) → n ≡ NamedKind.Known k → x ≡ kind_number k
+abbrev Only : ℕ → Option RecordKind → Type 0
+Only x n = (k : RecordKind) → n ≡ Some k → x ≡ kind_number k
 
 module _ (x : ℕ) where
-  row : (j : RecordKind) → eqb x (kind_number j) ≡ true → Only x (NamedKind.Known j)
+  row : (j : RecordKind) → eqb x (kind_number j) ≡ true → Only x (Some j)
   row j e k h = eqb-true x (kind_number j) e ∙ ap number_in h
 
-  none : Only x NamedKind.Unknown
+  none : Only x None
   none k h = absurd (let z : ◌≡◌ {A = ℕ} 0 1 = cc h in omega arith)
 
   only : Only x (record_kind_of x)

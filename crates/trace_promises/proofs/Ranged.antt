@@ -1,4 +1,5 @@
 -- The reader's test of a record and what the paper says is in range are one, field by field.
+use Rattle.std.specs.Prelude.{Option, Some, None}
 use Prim.Native.Nat.{ℕ, zero, suc, ◌+◌, ◌-◌, ◌<◌, ◌≤◌}
 use mathlib.Core.List.{List, [], ◌∷◌}
 use mathlib.Core.Bool.{Bool, true, false, cond, ◌&&◌, true≢false}
@@ -13,7 +14,6 @@ use lib.Dec.{ltb, eqb}
 use Rattle.rights.specs.declared.Service.{Service}
 use Rattle.trace.specs.declared.Field.{Field}
 use Rattle.trace.specs.declared.kind.RecordKind.{RecordKind}
-use Rattle.trace.specs.declared.ranges.Tested.{Tested}
 use Rattle.trace.specs.Kind.{layout_of, size_of}
 use Rattle.trace.specs.ElementField.{blank_of, form_fits_of, zeros_fit_of}
 use Rattle.trace.specs.Ranges.{first_of, up_to_of, three_of, element_out_of, first_out_of}
@@ -26,25 +26,25 @@ abbrev AllIn : Fields → Type 0
 AllIn Fields.none = Unit {0}
 AllIn (Fields.field f P rest) = P × AllIn rest
 
-abbrev Says : Fields → Tested → Type 0
-Says fs Tested.InRange = AllIn fs
-Says fs (Tested.Out f) = FirstOut fs f
+abbrev Says : Fields → Option Field → Type 0
+Says fs None = AllIn fs
+Says fs (Some f) = FirstOut fs f
 
 not_both : (fs : Fields) (f : Field) → AllIn fs → FirstOut fs f → ⊥
 not_both Fields.none f a o = o
 not_both (Fields.field g P rest) f a o = ⊎_elim (λ u. u.1 a.0) (λ u. not_both rest f a.1 u.1) o
 
 -- one field more, which is in range
-passes : (f : Field) (P : Type 0) (rest : Fields) (x : Tested) → P → Says rest x → Says (Fields.field f P rest) x
-passes f P rest Tested.InRange p s = (p, s)
-passes f P rest (Tested.Out g) p s = inr (p, s)
+passes : (f : Field) (P : Type 0) (rest : Fields) (x : Option Field) → P → Says rest x → Says (Fields.field f P rest) x
+passes f P rest None p s = (p, s)
+passes f P rest (Some g) p s = inr (p, s)
 
-first_assoc : (a b c : Tested) → first_of (first_of a b) c ≡ first_of a (first_of b c)
-first_assoc Tested.InRange b c = refl
-first_assoc (Tested.Out f) b c = refl
+first_assoc : (a b c : Option Field) → first_of (first_of a b) c ≡ first_of a (first_of b c)
+first_assoc None b c = refl
+first_assoc (Some f) b c = refl
 
-module _ (f : Field) (most : ℕ) (t : List ℕ) (rest : Fields) (x : Tested) (s : Says rest x) where
-  held_to : (v : ℕ) (b : Bool) → ltb most v ≡ b → Says (Fields.field f (v ≤ most) rest) (first_of (cond b (Tested.Out f) Tested.InRange) x)
+module _ (f : Field) (most : ℕ) (t : List ℕ) (rest : Fields) (x : Option Field) (s : Says rest x) where
+  held_to : (v : ℕ) (b : Bool) → ltb most v ≡ b → Says (Fields.field f (v ≤ most) rest) (first_of (cond b (Some f) None) x)
   held_to v true e = inl (refl, λ h. let l = ltb-true most v e in omega arith)
   held_to v false e = passes f (v ≤ most) rest x (ltb-false most v e) s
 
@@ -56,7 +56,7 @@ module _ (f : Field) (most : ℕ) (t : List ℕ) (rest : Fields) (x : Tested) (s
   unfolding up_to_of
   at_says p n = rw (ne_eqb p 0 n, add-zero p) (held_to (get_or t p 0) _ refl)
 
-three_says : (f : Service → Field) (t : List ℕ) (rest : Fields) (x : Tested) → Says rest x → (p : ℕ) → (p ≡ 0 → ⊥) → Says (three_fields f t p rest) (first_of (three_of f p t) x)
+three_says : (f : Service → Field) (t : List ℕ) (rest : Fields) (x : Option Field) → Says rest x → (p : ℕ) → (p ≡ 0 → ⊥) → Says (three_fields f t p rest) (first_of (three_of f p t) x)
 unfolding three_of
 three_says f t rest x s p n =
     let three = Fields.field (f Service.Three) (get_or t (p + 2) 0 ≤ 2) rest in
@@ -108,7 +108,7 @@ module _ (t : List ℕ) (p : ℕ) (there : p ≡ 0 → ⊥) (within : p + 132 �
       let l = rw (length-drop (n + 1) field, field_long) at h in
       after j (omega arith) ∙ z.zero (p + (n + 1 + j)) (omega arith) (omega arith))
 
-  zeros_so : (b : Bool) → blank_of (drop (n + 1) field) ≡ b → Says (Fields.field Field.Zeros (Zeros t (p + 1 + n) (p + 132)) Fields.none) (cond b Tested.InRange (Tested.Out Field.Zeros))
+  zeros_so : (b : Bool) → blank_of (drop (n + 1) field) ≡ b → Says (Fields.field Field.Zeros (Zeros t (p + 1 + n) (p + 132)) Fields.none) (cond b None (Some Field.Zeros))
   zeros_so true e = (zeros_in e, tt)
   zeros_so false e = inl (refl, λ z. true≢false (sym (zeros_to z) ∙ e))
 
@@ -128,7 +128,7 @@ module _ (t : List ℕ) (p : ℕ) (there : p ≡ 0 → ⊥) (within : p + 132 �
   held : HoldsElement t p → form ≡ true
   held w = simp (le-ltb n 2 w.least, le-ltb 131 n w.most, eq-eqb _ _ w.first, eq-eqb _ _ w.second)
 
-  form_so : (b : Bool) → form ≡ b → (x : Tested) → Says (Fields.field Field.Zeros (Zeros t (p + 1 + n) (p + 132)) Fields.none) x → Says (element_fields t p) (cond b x (Tested.Out Field.Element))
+  form_so : (b : Bool) → form ≡ b → (x : Option Field) → Says (Fields.field Field.Zeros (Zeros t (p + 1 + n) (p + 132)) Fields.none) x → Says (element_fields t p) (cond b x (Some Field.Element))
   form_so true e x s =
       passes Field.Element ((n ≡ 0) ⊎ HoldsElement t p) (Fields.field Field.Zeros (Zeros t (p + 1 + n) (p + 132)) Fields.none) x
       (form_in _ refl e) s
@@ -160,7 +160,7 @@ module _ (t : List ℕ) where
       up_to_says Field.Side 1 t (element_fields t 4) _ (element_says t 4 (λ z. omega arith) (omega arith)) 3 0 (λ z. omega arith)
   says RecordKind.Facility s =
       up_to_says Field.Side 1 t (Fields.field Field.What (get_or t 4 0 ≤ 3) Fields.none) _
-      (up_to_says Field.What 3 t Fields.none Tested.InRange tt 4 0 (λ z. omega arith))
+      (up_to_says Field.What 3 t Fields.none None tt 4 0 (λ z. omega arith))
       3 0 (λ z. omega arith)
   says RecordKind.Disconnect s =
       let element = element_fields t 8 in
@@ -170,7 +170,7 @@ module _ (t : List ℕ) where
       (three_says Field.Answer t element _ (element_says t 8 (λ z. omega arith) (omega arith)) 5 (λ z. omega arith))
       4 0 (λ z. omega arith))
       3 0 (λ z. omega arith)
-  says RecordKind.ReleaseComplete s = up_to_says Field.Side 1 t Fields.none Tested.InRange tt 3 0 (λ z. omega arith)
+  says RecordKind.ReleaseComplete s = up_to_says Field.Side 1 t Fields.none None tt 3 0 (λ z. omega arith)
   says RecordKind.Tick s = tt
 
   all_in : (k : RecordKind) → AllIn (fields_of k t) → FieldsInRange k t
@@ -194,18 +194,18 @@ module _ (t : List ℕ) where
   in_all RecordKind.Tick i = tt
 
   module _ (k : RecordKind) (s : size_of k ≤ length t) where
-    pub in_range_lem : first_out_of (layout_of k) t ≡ Tested.InRange → FieldsInRange k t
+    pub in_range_lem : first_out_of (layout_of k) t ≡ None → FieldsInRange k t
     in_range_lem e = all_in k (rw e at (says k s))
 
-    pub first_out : (f : Field) → first_out_of (layout_of k) t ≡ Tested.Out f → FirstOut (fields_of k t) f
+    pub first_out : (f : Field) → first_out_of (layout_of k) t ≡ Some f → FirstOut (fields_of k t) f
     first_out f e = rw e at (says k s)
 
-    pub not_in_range : (f : Field) → first_out_of (layout_of k) t ≡ Tested.Out f → FieldsInRange k t → ⊥
+    pub not_in_range : (f : Field) → first_out_of (layout_of k) t ≡ Some f → FieldsInRange k t → ⊥
     not_in_range f e i = not_both (fields_of k t) f (in_all k i) (first_out f e)
 
-    by_test : (x : Tested) → first_out_of (layout_of k) t ≡ x → FieldsInRange k t → x ≡ Tested.InRange
-    by_test Tested.InRange e i = refl
-    by_test (Tested.Out f) e i = absurd (not_in_range f e i)
+    by_test : (x : Option Field) → first_out_of (layout_of k) t ≡ x → FieldsInRange k t → x ≡ None
+    by_test None e i = refl
+    by_test (Some f) e i = absurd (not_in_range f e i)
 
-    pub ranged : FieldsInRange k t → first_out_of (layout_of k) t ≡ Tested.InRange
+    pub ranged : FieldsInRange k t → first_out_of (layout_of k) t ≡ None
     ranged i = by_test _ refl i

@@ -1,4 +1,6 @@
 -- The promises on records, kept.
+use Rattle.std.specs.Prelude.{Option, Some, None, Err}
+use Rattle.trace.specs.declared.Field.{Field}
 use Prim.Native.Nat.{ℕ, ◌+◌, ◌≤◌}
 use mathlib.Core.List.{List}
 use mathlib.Core.Bool.{Bool, true, false, cond}
@@ -11,10 +13,7 @@ use lib.Dec.{ltb, eqb}
 use Rattle.logic.specs.First.{First}
 use Rattle.logic.proofs.Only.{exactly}
 use Rattle.trace.specs.declared.kind.RecordKind.{RecordKind}
-use Rattle.trace.specs.declared.kind.NamedKind.{NamedKind}
 use Rattle.trace.specs.declared.Fault.{Fault}
-use Rattle.trace.specs.declared.Record.{Record}
-use Rattle.trace.specs.declared.ranges.Tested.{Tested}
 use Rattle.trace.specs.Kind.{record_kind_of, layout_of, size_of}
 use Rattle.trace.specs.Ranges.{first_out_of}
 use Rattle.trace.specs.Reading.{entry_of, whole_of, named_of, record_of}
@@ -34,25 +33,25 @@ size_is RecordKind.Tick = refl
 
 -- RECORDS, by what is known of the trace's front
 module _ (t : List ℕ) where
-  some : (n : NamedKind) (k : RecordKind) → record_kind_of (get_or t 0 0) ≡ n → n ≡ NamedKind.Known k → (a : Bool) (x : Tested) → ltb (length t) (size_of k) ≡ a → first_out_of (layout_of k) t ≡ x → 1 ≤ length t
-      → First (record_rows t) (record_number (cond a (Record.Refused Fault.Short) (whole_of x (entry_of k t))))
+  some : (n : Option RecordKind) (k : RecordKind) → record_kind_of (get_or t 0 0) ≡ n → n ≡ Some k → (a : Bool) (x : Option Field) → ltb (length t) (size_of k) ≡ a → first_out_of (layout_of k) t ≡ x → 1 ≤ length t
+      → First (record_rows t) (record_number (cond a (Some (Err Fault.Short)) (whole_of x (entry_of k t))))
   some n k e f true x s r l =
       let known = e ∙ f in
       inr ((λ u. let z : ◌≡◌ {A = ℕ} 0 1 = cc (known, u.1) in omega arith), inl ((l, rw known (omega (arith, size_is k, ltb-true (length t) (size_of k) s))), refl))
-  some n k e f false Tested.InRange s r l =
+  some n k e f false None s r l =
       let known = e ∙ f in
       let whole = ltb-false (length t) (size_of k) s in
       inr ((λ u. let z : ◌≡◌ {A = ℕ} 0 1 = cc (known, u.1) in omega arith), inr ((λ u. let v = rw known at u.1 in omega (arith, size_is k)), inr ((λ u. let v = rw known at u.1 in v (in_range_lem t k whole r)), refl)))
-  some n k e f false (Tested.Out g) s r l =
+  some n k e f false (Some g) s r l =
       let known = e ∙ f in
       let whole = ltb-false (length t) (size_of k) s in
       inr ((λ u. let z : ◌≡◌ {A = ℕ} 0 1 = cc (known, u.1) in omega arith), inr ((λ u. let v = rw known at u.1 in omega (arith, size_is k)), inl ((l, rw known (not_in_range t k whole g r)), refl)))
 
-  by_kind : (n : NamedKind) → record_kind_of (get_or t 0 0) ≡ n → 1 ≤ length t → First (record_rows t) (record_number (named_of n t))
-  by_kind NamedKind.Unknown e l = inl ((l, e), refl)
-  by_kind (NamedKind.Known k) e l = some (NamedKind.Known k) k e refl _ _ refl refl l
+  by_kind : (n : Option RecordKind) → record_kind_of (get_or t 0 0) ≡ n → 1 ≤ length t → First (record_rows t) (record_number (named_of n t))
+  by_kind None e l = inl ((l, e), refl)
+  by_kind (Some k) e l = some (Some k) k e refl _ _ refl refl l
 
-  at_the_end : (b : Bool) → eqb (length t) 0 ≡ b → First (record_rows t) (record_number (cond b Record.End (named_of (record_kind_of (get_or t 0 0)) t)))
+  at_the_end : (b : Bool) → eqb (length t) 0 ≡ b → First (record_rows t) (record_number (cond b None (named_of (record_kind_of (get_or t 0 0)) t)))
   at_the_end true z =
       let o = eqb-true (length t) 0 z in
       inr ((λ u. let l = u.0 in omega arith), inr ((λ u. let l = u.0 in omega arith), inr ((λ u. let l = u.0 in omega arith), refl)))

@@ -1,4 +1,5 @@
 -- What is written reads back.
+use Rattle.std.specs.Prelude.{Some, Ok}
 use Prim.Native.Nat.{ℕ, suc, ◌+◌, ◌-◌, ◌*◌, ◌/◌, ◌%◌, ◌<◌, ◌≤◌}
 use mathlib.Core.List.{List, [], ◌∷◌, ◌++◌, append_assoc}
 use mathlib.Core.Bool.{Bool, true, false, not, ◌&&◌, true≢false}
@@ -15,9 +16,7 @@ use Rattle.sent.specs.declared.side.Side.{Side}
 use Rattle.services.specs.declared.Given.{Given}
 use Rattle.services.specs.declared.Request.{Request}
 use Rattle.trace.specs.declared.kind.RecordKind.{RecordKind}
-use Rattle.trace.specs.declared.kind.NamedKind.{NamedKind}
 use Rattle.trace.specs.declared.Entry.{Entry}
-use Rattle.trace.specs.declared.Record.{Record}
 use Rattle.trace.specs.Kind.{record_kind_of, layout_of, size_of}
 use Rattle.trace.specs.Values.{flag_of, side_of, request_of, given_of, what_of}
 use Rattle.trace.specs.Reading.{record_reference_of, rights_of, requests_of, answers_of, event_of, count_of, entry_of, record_of, element_of}
@@ -162,7 +161,7 @@ module _ (h u rest : List ℕ) (fit : element_fits_of u ≡ true) where
       rw (length-append h (field_octets u ++ rest), length-append (field_octets u) rest, field_is u s) (omega arith)
 
 -- a record that is whole and in range
-whole : (k : RecordKind) (t : List ℕ) → record_kind_of (get_or t 0 0) ≡ NamedKind.Known k → 3 ≤ length t → size_of k ≤ length t → FieldsInRange k t → record_of t ≡ Record.Taken (entry_of k t)
+whole : (k : RecordKind) (t : List ℕ) → record_kind_of (get_or t 0 0) ≡ Some k → 3 ≤ length t → size_of k ≤ length t → FieldsInRange k t → record_of t ≡ Some (Ok (entry_of k t))
 unfolding record_of
 whole k t e l s i = simp (ne_eqb (length t) 0 (λ z. omega arith), e) (sym (named_taken k t s (ranged t k s i)))
 
@@ -171,7 +170,7 @@ nothing_is [] h = refl
 nothing_is (x ∷ xs) h = absurd (omega arith)
 
 -- an event without an element field
-bare_back : (r : ℕ) (e : Event) (k : RecordKind) (u t : List ℕ) → record_kind_of (get_or t 0 0) ≡ NamedKind.Known k → 3 ≤ length t → size_of k ≤ length t → FieldsInRange k t → record_reference_of t ≡ r → event_of k (layout_of k) t ≡ e → (layout_of k).element ≡ 0 → eqb (length u) 0 ≡ true → Again r e u t
+bare_back : (r : ℕ) (e : Event) (k : RecordKind) (u t : List ℕ) → record_kind_of (get_or t 0 0) ≡ Some k → 3 ≤ length t → size_of k ≤ length t → FieldsInRange k t → record_reference_of t ≡ r → event_of k (layout_of k) t ≡ e → (layout_of k).element ≡ 0 → eqb (length u) 0 ≡ true → Again r e u t
 unfolding entry_of count_of element_of
 bare_back r e k u t a l s i b d p z =
     record {
@@ -185,7 +184,7 @@ bare_back r e k u t a l s i b d p z =
     }
 
 -- an event with one
-fielded_back : (r : ℕ) (e : Event) (k : RecordKind) (p : ℕ) (h u rest : List ℕ) → (fit : element_fits_of u ≡ true) → record_kind_of (get_or (h ++ (field_octets u ++ rest)) 0 0) ≡ NamedKind.Known k → size_of k ≡ length h + 132 → FieldsInRange k (h ++ (field_octets u ++ rest)) → record_reference_of (h ++ (field_octets u ++ rest)) ≡ r → event_of k (layout_of k) (h ++ (field_octets u ++ rest)) ≡ e → (layout_of k).element ≡ suc p → suc p ≡ length h → Again r e u ((h ++ field_octets u) ++ rest)
+fielded_back : (r : ℕ) (e : Event) (k : RecordKind) (p : ℕ) (h u rest : List ℕ) → (fit : element_fits_of u ≡ true) → record_kind_of (get_or (h ++ (field_octets u ++ rest)) 0 0) ≡ Some k → size_of k ≡ length h + 132 → FieldsInRange k (h ++ (field_octets u ++ rest)) → record_reference_of (h ++ (field_octets u ++ rest)) ≡ r → event_of k (layout_of k) (h ++ (field_octets u ++ rest)) ≡ e → (layout_of k).element ≡ suc p → suc p ≡ length h → Again r e u ((h ++ field_octets u) ++ rest)
 unfolding entry_of
 fielded_back r e k p h u rest fit a s i b d q w =
     let t = h ++ (field_octets u ++ rest) in

@@ -1,4 +1,5 @@
 -- The promises, and what they rest on.
+use Rattle.std.specs.Prelude.{Option, Some, None, Result, Ok, Err}
 use Prim.Native.Nat.{ℕ, zero, suc, ◌≤◌}
 use mathlib.Core.List.{List, [], ◌∷◌, ◌++◌, append_assoc, append-nil}
 use mathlib.Core.Bool.{Bool, true, false, cond}
@@ -11,11 +12,8 @@ use lib.ListN.{length, drop, length-append, length-drop}
 use Rattle.call.specs.declared.Call.{Call}
 use Rattle.trace.specs.declared.Entry.{Entry}
 use Rattle.trace.specs.declared.Fault.{Fault}
-use Rattle.trace.specs.declared.Record.{Record}
 use Rattle.trace.specs.Reading.{record_of}
 use Rattle.trace.proofs.Rows.{least}
-use Rattle.trace_run.specs.declared.front.Front.{Front}
-use Rattle.trace_run.specs.declared.turn.Ending.{Ending}
 use Rattle.trace_run.specs.Front.{heeded_of, front_of}
 use Rattle.trace_run.specs.Course.{Answered, Course, course_of, Output, text_of, lines}
 use Rattle.trace_run.specs.Run.{line_at, Ran, ran_text, turn_of, run_in, trace_run_of}
@@ -34,33 +32,33 @@ goes_on p last room calls t more end = (piece p last room calls t more end).made
 
 -- where there is room for what stands at the front and nothing is made of it, there is no whole record
 module _ (p : Output) (last : Bool) (calls : List Call) (room : ℕ) where
-  abbrev Resting : Record → Type 0
-  Resting Record.End = Unit {0}
-  Resting (Record.Taken e) = ⊥
-  Resting (Record.Refused Fault.Kind) = ⊥
-  Resting (Record.Refused Fault.Short) = last ≡ false
-  Resting (Record.Refused (Fault.Range x)) = ⊥
+  abbrev Resting : Option (Result Entry Fault) → Type 0
+  Resting None = Unit {0}
+  Resting (Some (Ok e)) = ⊥
+  Resting (Some (Err Fault.Kind)) = ⊥
+  Resting (Some (Err Fault.Short)) = last ≡ false
+  Resting (Some (Err (Fault.Range x))) = ⊥
 
   module _ (t : List ℕ) (fits : Fits p room calls t) (next : Entry → Ran) where
-    fault_resting : (f : Fault) → record_of t ≡ Record.Refused f → Idle (turn_of (Front.Faulty f) p room calls t next) → ⊥
+    fault_resting : (f : Fault) → record_of t ≡ Some (Err f) → Idle (turn_of (Some (Err f)) p room calls t next) → ⊥
     fault_resting f e h =
         let s = rw (le-leb (length (p.fault f)) room (fits.fault f e)) at h.end in
         let z : ◌≡◌ {A = ℕ} 0 1 = cc in
         omega arith
 
-    short_resting : (b : Bool) → record_of t ≡ Record.Refused Fault.Short → Idle (turn_of (cond b (Front.Faulty Fault.Short) Front.Waits) p room calls t next) → b ≡ false
+    short_resting : (b : Bool) → record_of t ≡ Some (Err Fault.Short) → Idle (turn_of (cond b (Some (Err Fault.Short)) None) p room calls t next) → b ≡ false
     short_resting true e h = absurd (fault_resting Fault.Short e h)
     short_resting false e h = refl
 
-    resting_turn : (r : Record) → record_of t ≡ r → Idle (turn_of (heeded_of last r) p room calls t next) → Resting r
-    resting_turn Record.End e h = tt
-    resting_turn (Record.Taken x) e h =
+    resting_turn : (r : Option (Result Entry Fault)) → record_of t ≡ r → Idle (turn_of (heeded_of last r) p room calls t next) → Resting r
+    resting_turn None e h = tt
+    resting_turn (Some (Ok x)) e h =
         let s = rw (le-leb (length (line_at p calls x t)) room (fits.line x e)) at h.none in
         let n = ap length s in
         omega arith
-    resting_turn (Record.Refused Fault.Kind) e h = fault_resting Fault.Kind e h
-    resting_turn (Record.Refused Fault.Short) e h = short_resting last e h
-    resting_turn (Record.Refused (Fault.Range x)) e h = fault_resting (Fault.Range x) e h
+    resting_turn (Some (Err Fault.Kind)) e h = fault_resting Fault.Kind e h
+    resting_turn (Some (Err Fault.Short)) e h = short_resting last e h
+    resting_turn (Some (Err (Fault.Range x))) e h = fault_resting (Fault.Range x) e h
 
   resting : (t : List ℕ) → Fits p room calls t → Idle (trace_run_of p last room calls t) → Resting (record_of t)
   unfolding trace_run_of run_in front_of record_of
@@ -68,28 +66,28 @@ module _ (p : Output) (last : Bool) (calls : List Call) (room : ℕ) where
   resting (x ∷ t) fits h = resting_turn (x ∷ t) fits _ (record_of (x ∷ t)) refl h
 
 module _ (p : Output) (calls : List Call) (room : ℕ) (t : List ℕ) where
-  waiting : (r : Record) → record_of t ≡ r → Resting p false calls room r → length t ≤ 143
-  waiting Record.End e h = rw (none_left t e) (omega arith)
-  waiting (Record.Taken x) e h = absurd h
-  waiting (Record.Refused Fault.Kind) e h = absurd h
-  waiting (Record.Refused Fault.Short) e h = cut_short t e
-  waiting (Record.Refused (Fault.Range x)) e h = absurd h
+  waiting : (r : Option (Result Entry Fault)) → record_of t ≡ r → Resting p false calls room r → length t ≤ 143
+  waiting None e h = rw (none_left t e) (omega arith)
+  waiting (Some (Ok x)) e h = absurd h
+  waiting (Some (Err Fault.Kind)) e h = absurd h
+  waiting (Some (Err Fault.Short)) e h = cut_short t e
+  waiting (Some (Err (Fault.Range x))) e h = absurd h
 
-  ending : (r : Record) → record_of t ≡ r → Resting p true calls room r → t ≡ []
-  ending Record.End e h = none_left t e
-  ending (Record.Taken x) e h = absurd h
-  ending (Record.Refused Fault.Kind) e h = absurd h
-  ending (Record.Refused Fault.Short) e h = let z : ◌≡◌ {A = ℕ} 0 1 = cc in absurd (omega arith)
-  ending (Record.Refused (Fault.Range x)) e h = absurd h
+  ending : (r : Option (Result Entry Fault)) → record_of t ≡ r → Resting p true calls room r → t ≡ []
+  ending None e h = none_left t e
+  ending (Some (Ok x)) e h = absurd h
+  ending (Some (Err Fault.Kind)) e h = absurd h
+  ending (Some (Err Fault.Short)) e h = let z : ◌≡◌ {A = ℕ} 0 1 = cc in absurd (omega arith)
+  ending (Some (Err (Fault.Range x))) e h = absurd h
 
   over : Fits p room calls t → Idle (trace_run_of p true room calls t) → t ≡ []
   over fits h = ending (record_of t) refl (resting p true calls room t fits h)
 
 -- the lines have octets, and at most 143 of them
 module _ (explained : Bool) where
-  no_line : (l : List Answered) (e : Ending) → text_of (lines explained) l e ≡ [] → (l ≡ []) × (e ≡ Ending.Open)
-  no_line [] Ending.Open h = (refl, refl)
-  no_line [] (Ending.By f) h = let n = ap length h in absurd (omega arith)
+  no_line : (l : List Answered) (e : Option Fault) → text_of (lines explained) l e ≡ [] → (l ≡ []) × (e ≡ None)
+  no_line [] None h = (refl, refl)
+  no_line [] (Some f) h = let n = ap length h in absurd (omega arith)
   no_line (a ∷ l) e h =
       let n = ap length h in
       let m = line_some explained a in
@@ -118,7 +116,7 @@ bounded explained calls t o =
     }
 
 -- what is put out for two lists, one after the other
-text_append : (p : Output) (l m : List Answered) (e : Ending) → text_of p (l ++ m) e ≡ text_of p l Ending.Open ++ text_of p m e
+text_append : (p : Output) (l m : List Answered) (e : Option Fault) → text_of p (l ++ m) e ≡ text_of p l None ++ text_of p m e
 text_append p [] m e = refl
 text_append p (a ∷ l) m e = rw (text_append p l m e, append_assoc)
 
@@ -134,7 +132,7 @@ run {p} {calls = calls} end (Run.prints {made = made} last room held more {text}
     let w = piece p last room calls held more end in
     let m = run end r in
     record {
-      course = rw (w.made, e) (ap (λ (c : Course). followed (trace_run_of p last room calls held) c Ending.Open) m.course);
+      course = rw (w.made, e) (ap (λ (c : Course). followed (trace_run_of p last room calls held) c None) m.course);
       out = rw (e, m.out) (sym (text_append p (trace_run_of p last room calls held).list made.list made.end));
     }
 run {p} {calls = calls} end (Run.faults last room held more f e) =
@@ -156,24 +154,24 @@ whole_run = record { any = whole; printed = λ explained trace text made r. rw (
 -- a piece of which something is made is used, or ends the run
 record Faulted (r : Ran) : Type 0 where
   fault : Fault
-  is : r.end ≡ Ending.By fault
+  is : r.end ≡ Some fault
 
 abbrev Moves : Ran → Type 0
 Moves r = Idle r ⊎ (Faulted r ⊎ (1 ≤ r.used))
 
 module _ (p : Output) (last : Bool) (calls : List Call) (room : ℕ) (t : List ℕ) (next : Entry → Ran) where
-  fault_moves : (f : Fault) → Moves (turn_of (Front.Faulty f) p room calls t next)
+  fault_moves : (f : Fault) → Moves (turn_of (Some (Err f)) p room calls t next)
   fault_moves f =
       by_cond Moves (leb (length (p.fault f)) room) (λ _. inr (inl (record { fault = f; is = refl }))) (λ _. inl (record { none = refl; end = refl }))
 
-  moves_turn : (r : Record) → Moves (turn_of (heeded_of last r) p room calls t next)
-  moves_turn Record.End = inl (record { none = refl; end = refl })
-  moves_turn (Record.Taken e) =
+  moves_turn : (r : Option (Result Entry Fault)) → Moves (turn_of (heeded_of last r) p room calls t next)
+  moves_turn None = inl (record { none = refl; end = refl })
+  moves_turn (Some (Ok e)) =
       by_cond Moves (leb (length (line_at p calls e t)) room) (λ _. inr (inr (omega (arith, least e.kind)))) (λ _. inl (record { none = refl; end = refl }))
-  moves_turn (Record.Refused Fault.Kind) = fault_moves Fault.Kind
-  moves_turn (Record.Refused Fault.Short) =
+  moves_turn (Some (Err Fault.Kind)) = fault_moves Fault.Kind
+  moves_turn (Some (Err Fault.Short)) =
       by_cond (λ f. Moves (turn_of f p room calls t next)) last (λ _. fault_moves Fault.Short) (λ _. inl (record { none = refl; end = refl }))
-  moves_turn (Record.Refused (Fault.Range x)) = fault_moves (Fault.Range x)
+  moves_turn (Some (Err (Fault.Range x))) = fault_moves (Fault.Range x)
 
 moves : (k : ℕ) (p : Output) (last : Bool) (room : ℕ) (calls : List Call) (t : List ℕ) → Moves (run_in k p last room calls t)
 unfolding run_in front_of
@@ -182,10 +180,10 @@ moves (suc k) p last room calls t = moves_turn p last calls room t _ (record_of 
 
 -- so the last piece is worked off in as many turns as it has octets, each with room for what stands at the front
 module _ (p : Output) where
-  abbrev room_for : List Call → List ℕ → Record → ℕ
-  room_for calls held Record.End = 0
-  room_for calls held (Record.Taken e) = length (line_at p calls e held)
-  room_for calls held (Record.Refused f) = length (p.fault f)
+  abbrev room_for : List Call → List ℕ → Option (Result Entry Fault) → ℕ
+  room_for calls held None = 0
+  room_for calls held (Some (Ok e)) = length (line_at p calls e held)
+  room_for calls held (Some (Err f)) = length (p.fault f)
 
   abbrev room_at : List Call → List ℕ → ℕ
   room_at calls held = room_for calls held (record_of held)
@@ -196,12 +194,12 @@ module _ (p : Output) where
   abbrev turned : List Call → List ℕ → Ran
   turned calls held = trace_run_of p true (room_at calls held) calls held
 
-  faulty : (calls : List Call) (held : List ℕ) (f : Fault) → (turned calls held).end ≡ Ending.By f → HasRun p true calls held []
+  faulty : (calls : List Call) (held : List ℕ) (f : Fault) → (turned calls held).end ≡ Some f → HasRun p true calls held []
   faulty calls held f e = record { text = _; made = _; run = Run.faults true (room_at calls held) held [] f e }
 
-  last_turn : (calls : List Call) (held : List ℕ) (e : Ending) → (turned calls held).end ≡ e → HasRun p true (turned calls held).calls (drop (turned calls held).used held) [] → HasRun p true calls held []
-  last_turn calls held (Ending.By f) e r = faulty calls held f e
-  last_turn calls held Ending.Open e r = record { text = _; made = _; run = Run.prints true (room_at calls held) held [] e r.run }
+  last_turn : (calls : List Call) (held : List ℕ) (e : Option Fault) → (turned calls held).end ≡ e → HasRun p true (turned calls held).calls (drop (turned calls held).used held) [] → HasRun p true calls held []
+  last_turn calls held (Some f) e r = faulty calls held f e
+  last_turn calls held None e r = record { text = _; made = _; run = Run.prints true (room_at calls held) held [] e r.run }
 
   last_piece : (calls : List Call) (held : List ℕ) → (1 ≤ (turned calls held).used → HasRun p true (turned calls held).calls (drop (turned calls held).used held) []) → HasRun p true calls held []
   unfolding trace_run_of

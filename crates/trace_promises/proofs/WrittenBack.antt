@@ -1,4 +1,5 @@
 -- What is read in octets can be written, and is written as these octets.
+use Rattle.std.specs.Prelude.{Some}
 use Prim.Native.Nat.{ℕ, zero, suc, ◌+◌, ◌-◌, ◌/◌, ◌%◌, ◌<◌, ◌≤◌}
 use mathlib.Core.List.{List, [], ◌∷◌, ◌++◌}
 use mathlib.Core.Bool.{Bool, true, false}
@@ -15,7 +16,6 @@ use Rattle.sent.specs.declared.side.Side.{Side}
 use Rattle.services.specs.declared.Given.{Given}
 use Rattle.services.specs.declared.Request.{Request}
 use Rattle.trace.specs.declared.kind.RecordKind.{RecordKind}
-use Rattle.trace.specs.declared.kind.NamedKind.{NamedKind}
 use Rattle.trace.specs.declared.Entry.{Entry}
 use Rattle.trace.specs.Kind.{layout_of, size_of}
 use Rattle.trace.specs.Reading.{record_reference_of, rights_of, requests_of, answers_of, event_of, count_of, entry_of}
@@ -156,7 +156,7 @@ module _ (t : List ℕ) (o : Octets t) where
 
   -- the octets before the element field
   abbrev head_for : RecordKind → List ℕ
-  head_for k = head_octets (NamedKind.Known k) (record_reference_of t) (event_of k (layout_of k) t)
+  head_for k = head_octets (Some k) (record_reference_of t) (event_of k (layout_of k) t)
 
   high : record_reference_of t / 256 ≡ get_or t 1 0
   unfolding record_reference_of

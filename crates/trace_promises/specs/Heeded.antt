@@ -1,14 +1,13 @@
 -- What each record of a trace does, and where a faulty one stands. Nothing here names how the course is worked out.
+use Rattle.std.specs.Prelude.{Option, Some, None, Ok, Err}
 use Rattle.std.specs.Prelude.{ℕ, ◌+◌, List, [], ◌∷◌, Bool, ◌≡◌, length, drop}
 use Rattle.call.specs.declared.Call.{Call}
 use Rattle.table.specs.Step.{step_outcome, step_table}
 use Rattle.trace.specs.declared.Entry.{Entry}
 use Rattle.trace.specs.declared.Fault.{Fault}
-use Rattle.trace.specs.declared.Record.{Record}
 use Rattle.trace.specs.Kind.{size_of}
 use Rattle.trace.specs.Reading.{record_of, element_of}
 use Rattle.trace_lines.specs.Words.{words_of}
-use Rattle.trace_run.specs.declared.turn.Ending.{Ending}
 use Rattle.trace_run.specs.Course.{Answered, Course, course_of, Output}
 use Rattle.trace_run.specs.Run.{trace_run_of}
 use Rattle.trace_promises.specs.WholeRun.{nothing_at, places}
@@ -21,14 +20,14 @@ before a m = record { list = a ∷ m.list; calls = m.calls; end = m.end }
 -- that it leaves. A trace ends where there are no octets, and at the first faulty record.
 pub record Heeded : Type 0 where
   pub taken :
-      (calls : List Call) (t : List ℕ) (x : Entry) → record_of t ≡ Record.Taken x →
+      (calls : List Call) (t : List ℕ) (x : Entry) → record_of t ≡ Some (Ok x) →
       course_of calls t
       ≡ before (record { entry = x; outcome = step_outcome calls x.reference x.event (element_of x t) })
       (course_of (step_table calls x.reference x.event (element_of x t)) (drop (size_of x.kind) t))
-  pub ended : (calls : List Call) (t : List ℕ) → record_of t ≡ Record.End → course_of calls t ≡ nothing_at calls
+  pub ended : (calls : List Call) (t : List ℕ) → record_of t ≡ None → course_of calls t ≡ nothing_at calls
   pub faulty :
-      (calls : List Call) (t : List ℕ) (f : Fault) → record_of t ≡ Record.Refused f →
-      course_of calls t ≡ record { list = []; calls = calls; end = Ending.By f }
+      (calls : List Call) (t : List ℕ) (f : Fault) → record_of t ≡ Some (Err f) →
+      course_of calls t ≡ record { list = []; calls = calls; end = Some f }
 
 -- the octets of the records of events
 abbrev pub span_of : List Answered → ℕ
@@ -42,13 +41,13 @@ pub record Places : Type 0 where
       (p : Output) (last : Bool) (room : ℕ) (calls : List Call) (t : List ℕ) →
       (trace_run_of p last room calls t).used ≡ span_of (trace_run_of p last room calls t).list
   pub fault :
-      (calls : List Call) (t : List ℕ) (f : Fault) → (course_of calls t).end ≡ Ending.By f →
-      record_of (drop (span_of (course_of calls t).list) t) ≡ Record.Refused f
+      (calls : List Call) (t : List ℕ) (f : Fault) → (course_of calls t).end ≡ Some f →
+      record_of (drop (span_of (course_of calls t).list) t) ≡ Some (Err f)
 
 -- what is said on standard error of a whole trace
-abbrev pub said_at : Course → Ending → List ℕ
-said_at m Ending.Open = []
-said_at m (Ending.By f) = words_of (length m.list + 1) (span_of m.list) f
+abbrev pub said_at : Course → Option Fault → List ℕ
+said_at m None = []
+said_at m (Some f) = words_of (length m.list + 1) (span_of m.list) f
 
 unfoldable pub said_of : List ℕ → List ℕ
 said_of t = said_at (course_of places t) (course_of places t).end

@@ -1,19 +1,17 @@
 -- What a record of a trace means: which octet is which kind, where each field stands, and what its values say. All of
 -- it is the paper's, written out; nothing here names the reader's tables. Each statement is a type; `proofs/Means.antt`
 -- has its proof.
+use Rattle.std.specs.Prelude.{Some, None, Ok}
+use Rattle.services.specs.declared.ByService.{ByService}
 use Rattle.std.specs.Prelude.{ℕ, ◌+◌, ◌*◌, List, [], Bool, true, false, ◌≡◌, get_or, take, drop}
 use Rattle.event.specs.declared.Event.{Event}
 use Rattle.facility_rules.specs.declared.What.{What}
 use Rattle.rights.specs.declared.Rights.{Rights}
 use Rattle.sent.specs.declared.side.Side.{Side}
-use Rattle.services.specs.declared.Answers.{Answers}
 use Rattle.services.specs.declared.Given.{Given}
 use Rattle.services.specs.declared.Request.{Request}
-use Rattle.services.specs.declared.Requests.{Requests}
 use Rattle.trace.specs.declared.kind.RecordKind.{RecordKind}
-use Rattle.trace.specs.declared.kind.NamedKind.{NamedKind}
 use Rattle.trace.specs.declared.Entry.{Entry}
-use Rattle.trace.specs.declared.Record.{Record}
 use Rattle.trace.specs.Kind.{record_kind_of}
 use Rattle.trace.specs.Reading.{record_of, element_of}
 
@@ -31,8 +29,8 @@ kind_number RecordKind.Tick = 8
 
 -- KINDS. Every number is known as its kind, and no other number is.
 pub record Kinds : Type 0 where
-  pub known : (k : RecordKind) → record_kind_of (kind_number k) ≡ NamedKind.Known k
-  pub only : (x : ℕ) (k : RecordKind) → record_kind_of x ≡ NamedKind.Known k → x ≡ kind_number k
+  pub known : (k : RecordKind) → record_kind_of (kind_number k) ≡ Some k
+  pub only : (x : ℕ) (k : RecordKind) → record_kind_of x ≡ Some k → x ≡ kind_number k
 
 -- late and leave
 pub data FlagIs : ℕ → Bool → Type 0 where
@@ -77,12 +75,12 @@ pub record RightsIn (t : List ℕ) (r : Rights) : Type 0 where
   pub y : r.refill ≡ get_or t 8 0
 
 -- three of them, from octet p on
-pub record RequestsAt (p : ℕ) (t : List ℕ) (q : Requests) : Type 0 where
+pub record RequestsAt (p : ℕ) (t : List ℕ) (q : ByService Request) : Type 0 where
   pub one : RequestIs (get_or t p 0) q.one
   pub two : RequestIs (get_or t (p + 1) 0) q.two
   pub three : RequestIs (get_or t (p + 2) 0) q.three
 
-pub record AnswersAt (p : ℕ) (t : List ℕ) (a : Answers) : Type 0 where
+pub record AnswersAt (p : ℕ) (t : List ℕ) (a : ByService Given) : Type 0 where
   pub one : AnswerIs (get_or t p 0) a.one
   pub two : AnswerIs (get_or t (p + 1) 0) a.two
   pub three : AnswerIs (get_or t (p + 2) 0) a.three
@@ -95,10 +93,10 @@ element_at p t = take (get_or t p 0) (drop (p + 1) t)
 -- element. 4: side, element. 5: side, what. 6: side, cause, answers, element. 7: side." More data is in no trace.
 pub data Says (t : List ℕ) : RecordKind → Event → List ℕ → Type 0 where
   setup :
-      {r : Rights} {q : Requests} → get_or t 0 0 ≡ 1 → RightsIn t r → RequestsAt 9 t q
+      {r : Rights} {q : ByService Request} → get_or t 0 0 ≡ 1 → RightsIn t r → RequestsAt 9 t q
       → Says t RecordKind.Setup (Event.Setup (reference_in t) r q) (element_at 12 t)
-  alerting : {a : Answers} → get_or t 0 0 ≡ 2 → AnswersAt 3 t a → Says t RecordKind.Alerting (Event.Alerting a) (element_at 6 t)
-  connect : {a : Answers} → get_or t 0 0 ≡ 3 → AnswersAt 3 t a → Says t RecordKind.Connect (Event.Connect a) (element_at 6 t)
+  alerting : {a : ByService Given} → get_or t 0 0 ≡ 2 → AnswersAt 3 t a → Says t RecordKind.Alerting (Event.Alerting a) (element_at 6 t)
+  connect : {a : ByService Given} → get_or t 0 0 ≡ 3 → AnswersAt 3 t a → Says t RecordKind.Connect (Event.Connect a) (element_at 6 t)
   information :
       {s : Side} → get_or t 0 0 ≡ 4 → SideIs (get_or t 3 0) s
       → Says t RecordKind.Information (Event.Information s false) (element_at 4 t)
@@ -106,7 +104,7 @@ pub data Says (t : List ℕ) : RecordKind → Event → List ℕ → Type 0 wher
       {s : Side} {w : What} → get_or t 0 0 ≡ 5 → SideIs (get_or t 3 0) s → WhatIs (get_or t 4 0) w
       → Says t RecordKind.Facility (Event.Facility s w) []
   disconnect :
-      {s : Side} {a : Answers} → get_or t 0 0 ≡ 6 → SideIs (get_or t 3 0) s → AnswersAt 5 t a
+      {s : Side} {a : ByService Given} → get_or t 0 0 ≡ 6 → SideIs (get_or t 3 0) s → AnswersAt 5 t a
       → Says t RecordKind.Disconnect (Event.Disconnect s (get_or t 4 0) a) (element_at 8 t)
   complete :
       {s : Side} → get_or t 0 0 ≡ 7 → SideIs (get_or t 3 0) s
@@ -119,5 +117,5 @@ pub record Meant (t : List ℕ) (x : Entry) : Type 0 where
 
 -- MEANS. A record that is taken is taken for what its octets say; and a trace ends only where there are no octets.
 pub record Means : Type 0 where
-  pub taken : (t : List ℕ) (x : Entry) → record_of t ≡ Record.Taken x → Meant t x
-  pub ended : (t : List ℕ) → record_of t ≡ Record.End → t ≡ []
+  pub taken : (t : List ℕ) (x : Entry) → record_of t ≡ Some (Ok x) → Meant t x
+  pub ended : (t : List ℕ) → record_of t ≡ None → t ≡ []

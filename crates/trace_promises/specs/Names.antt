@@ -1,11 +1,10 @@
 -- What is promised of the field that a faulty record names. The statement is a type; `proofs/Names.antt` has its proof.
+use Rattle.std.specs.Prelude.{Some, Err}
 use Rattle.std.specs.Prelude.{ℕ, ◌+◌, ◌≤◌, List, ◌⊎◌, ◌≡◌, get_or}
 use Rattle.rights.specs.declared.Service.{Service}
 use Rattle.trace.specs.declared.kind.RecordKind.{RecordKind}
-use Rattle.trace.specs.declared.kind.NamedKind.{NamedKind}
 use Rattle.trace.specs.declared.Fault.{Fault}
 use Rattle.trace.specs.declared.Field.{Field}
-use Rattle.trace.specs.declared.Record.{Record}
 use Rattle.trace.specs.Kind.{record_kind_of}
 use Rattle.trace.specs.Reading.{record_of}
 use Rattle.trace_promises.specs.Records.{Zeros, HoldsElement}
@@ -51,4 +50,4 @@ fields_of RecordKind.Tick t = none
 
 -- NAMES. A record that is refused for a field names the first that is out of range.
 abbrev pub Names : Type 0
-Names = (t : List ℕ) (k : RecordKind) (f : Field) → record_kind_of (get_or t 0 0) ≡ NamedKind.Known k → record_of t ≡ Record.Refused (Fault.Range f) → FirstOut (fields_of k t) f
+Names = (t : List ℕ) (k : RecordKind) (f : Field) → record_kind_of (get_or t 0 0) ≡ Some k → record_of t ≡ Some (Err (Fault.Range f)) → FirstOut (fields_of k t) f

@@ -1,18 +1,19 @@
 -- What is promised of the records of a trace, over the definitions. Each statement is a type; `proofs/Records.antt` has
 -- its proof.
+use Rattle.std.specs.Prelude.{Option, Some, None, Result, Ok, Err}
+use Rattle.trace.specs.declared.Entry.{Entry}
+use Rattle.trace.specs.declared.Fault.{Fault}
 use Rattle.std.specs.Prelude.{ℕ, ◌+◌, ◌-◌, ◌<◌, ◌≤◌, List, ◌⊎◌, ◌≡◌, length, get_or}
 use Rattle.logic.specs.First.{Rows, end, row, Exactly}
 use Rattle.trace.specs.declared.kind.RecordKind.{RecordKind}
-use Rattle.trace.specs.declared.kind.NamedKind.{NamedKind}
-use Rattle.trace.specs.declared.Record.{Record}
 use Rattle.trace.specs.Kind.{record_kind_of}
 use Rattle.trace.specs.Reading.{trace_fault_number, record_of}
 
 -- an event, or the end of the trace, has number 0
-abbrev pub record_number : Record → ℕ
-record_number Record.End = 0
-record_number (Record.Taken e) = 0
-record_number (Record.Refused f) = trace_fault_number f
+abbrev pub record_number : Option (Result Entry Fault) → ℕ
+record_number None = 0
+record_number (Some (Ok e)) = 0
+record_number (Some (Err f)) = trace_fault_number f
 
 -- RECORDS. "An element field is n (0 for absent, or 2 to 131), the n octets beginning 126 and n − 2, then zeros to 132
 -- in all."
@@ -59,18 +60,18 @@ body_of RecordKind.Disconnect = 139
 body_of RecordKind.ReleaseComplete = 3
 body_of RecordKind.Tick = 2
 
-abbrev pub Short : NamedKind → List ℕ → Type 0
-Short NamedKind.Unknown t = ⊥
-Short (NamedKind.Known k) t = length t < 1 + body_of k
+abbrev pub Short : Option RecordKind → List ℕ → Type 0
+Short None t = ⊥
+Short (Some k) t = length t < 1 + body_of k
 
-abbrev pub FieldsOutOfRange : NamedKind → List ℕ → Type 0
-FieldsOutOfRange NamedKind.Unknown t = ⊥
-FieldsOutOfRange (NamedKind.Known k) t = FieldsInRange k t → ⊥
+abbrev pub FieldsOutOfRange : Option RecordKind → List ℕ → Type 0
+FieldsOutOfRange None t = ⊥
+FieldsOutOfRange (Some k) t = FieldsInRange k t → ⊥
 
 -- "31, 32, 33: unknown kind; record cut short; field out of range; in this order", where the trace does not end here
 abbrev pub record_rows : List ℕ → Rows
 record_rows t =
-    row ((1 ≤ length t) × (record_kind_of (get_or t 0 0) ≡ NamedKind.Unknown)) 31
+    row ((1 ≤ length t) × (record_kind_of (get_or t 0 0) ≡ None)) 31
     (row ((1 ≤ length t) × Short (record_kind_of (get_or t 0 0)) t) 32
     (row ((1 ≤ length t) × FieldsOutOfRange (record_kind_of (get_or t 0 0)) t) 33 end))
 

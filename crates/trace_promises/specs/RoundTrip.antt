@@ -1,14 +1,13 @@
 -- What is promised of a record that is written. Each statement is a type; `proofs/` has its proof.
+use Rattle.std.specs.Prelude.{Some, Ok}
+use Rattle.services.specs.declared.ByService.{ByService}
 use Rattle.std.specs.Prelude.{ℕ, ◌+◌, List, [], ◌∷◌, ◌++◌, true, false, ◌≡◌, take}
 use Rattle.event.specs.declared.Event.{Event}
 use Rattle.facility_rules.specs.declared.What.{What}
 use Rattle.rights.specs.declared.Rights.{Rights}
 use Rattle.sent.specs.declared.side.Side.{Side}
-use Rattle.services.specs.declared.Answers.{Answers}
 use Rattle.services.specs.declared.Given.{Given}
 use Rattle.services.specs.declared.Request.{Request}
-use Rattle.services.specs.declared.Requests.{Requests}
-use Rattle.trace.specs.declared.Record.{Record}
 use Rattle.trace.specs.declared.Entry.{Entry}
 use Rattle.trace.specs.Reading.{record_of, element_of}
 use Rattle.recorder.specs.Writing.{record_octets, record_fits_of}
@@ -17,7 +16,7 @@ use Rattle.trace_promises.specs.WholeRun.{Octets}
 
 -- ROUND TRIP. What is written reads back as the same event and element, whatever follows it in the trace.
 pub record Back (r : ℕ) (e : Event) (u t : List ℕ) (x : Entry) : Type 0 where
-  pub taken : record_of t ≡ Record.Taken x
+  pub taken : record_of t ≡ Some (Ok x)
   pub reference : x.reference ≡ r
   pub event : x.event ≡ e
   pub element : element_of x t ≡ u
@@ -37,10 +36,10 @@ four_octets = 126 ∷ 2 ∷ 1 ∷ 2 ∷ []
 abbrev pub some_rights : Rights
 some_rights = record { services = 7; late = true; leave = false; limit = 131; burst = 2; refill = 1 }
 
-abbrev pub some_requests : Requests
+abbrev pub some_requests : ByService Request
 some_requests = record { one = Request.Unasked; two = Request.Required; three = Request.Preferred }
 
-abbrev pub some_answers : Answers
+abbrev pub some_answers : ByService Given
 some_answers = record { one = Given.Silent; two = Given.Rejected; three = Given.Accepted }
 
 pub record Fitting : Type 0 where
@@ -59,4 +58,4 @@ pub record Rewritten (t : List ℕ) (x : Entry) : Type 0 where
   pub same : record_octets x.reference x.event (element_of x t) ≡ take (1 + body_of x.kind) t
 
 abbrev pub WrittenBack : Type 0
-WrittenBack = (t : List ℕ) (x : Entry) → Octets t → record_of t ≡ Record.Taken x → Rewritten t x
+WrittenBack = (t : List ℕ) (x : Entry) → Octets t → record_of t ≡ Some (Ok x) → Rewritten t x

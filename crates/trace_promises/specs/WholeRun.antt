@@ -1,14 +1,13 @@
 -- What is promised of a trace that is read in pieces, over the definitions: of its events with their answers, whatever
 -- a program p puts out for each of them. Each statement is a type; `proofs/` has its proof.
+use Rattle.std.specs.Prelude.{Option, Some, None, Ok, Err}
 use Rattle.std.specs.Prelude.{ℕ, ◌<◌, ◌≤◌, List, [], ◌++◌, Bool, true, false, ◌≡◌, length, get_or, drop, replicate}
 use Rattle.call.specs.declared.Call.{Call}
 use Rattle.call.specs.Sound.{fresh_call}
 use Rattle.trace.specs.declared.Entry.{Entry}
 use Rattle.trace.specs.declared.Fault.{Fault}
-use Rattle.trace.specs.declared.Record.{Record}
 use Rattle.trace.specs.Reading.{record_of}
 use Rattle.trace_lines.specs.Notices.{first_line}
-use Rattle.trace_run.specs.declared.turn.Ending.{Ending}
 use Rattle.trace_run.specs.Course.{Course, course_of, Output, text_of, lines}
 use Rattle.trace_run.specs.Run.{line_at, Ran, ran_text, trace_run_of}
 
@@ -26,12 +25,12 @@ printed_of explained t = first_line explained ++ course_text (lines explained) (
 
 -- the course of no octets
 abbrev pub nothing_at : List Call → Course
-nothing_at calls = record { list = []; calls = calls; end = Ending.Open }
+nothing_at calls = record { list = []; calls = calls; end = None }
 
 -- what was made of a piece, and, where no fault ended it, what is made of the rest
-abbrev pub followed : Ran → Course → Ending → Course
-followed r m Ending.Open = record { list = r.list ++ m.list; calls = m.calls; end = m.end }
-followed r m (Ending.By f) = record { list = r.list; calls = r.calls; end = Ending.By f }
+abbrev pub followed : Ran → Course → Option Fault → Course
+followed r m None = record { list = r.list ++ m.list; calls = m.calls; end = m.end }
+followed r m (Some f) = record { list = r.list; calls = r.calls; end = Some f }
 
 abbrev pub then_course : Ran → Course → Course
 then_course r m = followed r m r.end
@@ -60,7 +59,7 @@ abbrev pub lines_in : Bool → Bool → ℕ → List Call → List ℕ → List 
 lines_in explained last room calls t = ran_text (lines explained) (trace_run_of (lines explained) last room calls t)
 
 pub record Bounds (explained : Bool) (calls : List Call) (t : List ℕ) : Type 0 where
-  pub line : (e : Entry) → record_of t ≡ Record.Taken e → length (line_at (lines explained) calls e t) ≤ longest
+  pub line : (e : Entry) → record_of t ≡ Some (Ok e) → length (line_at (lines explained) calls e t) ≤ longest
   pub fault : (f : Fault) → length ((lines explained).fault f) ≤ longest
   pub waits : (room : ℕ) → longest ≤ room → lines_in explained false room calls t ≡ [] → length t ≤ 143
   pub ends : (room : ℕ) → longest ≤ room → lines_in explained true room calls t ≡ [] → t ≡ []
@@ -70,13 +69,13 @@ Bounded = (explained : Bool) (calls : List Call) (t : List ℕ) → Octets t →
 
 -- there is room for what is put out of what stands at the front
 pub record Fits (p : Output) (room : ℕ) (calls : List Call) (t : List ℕ) : Type 0 where
-  pub line : (e : Entry) → record_of t ≡ Record.Taken e → length (line_at p calls e t) ≤ room
-  pub fault : (f : Fault) → record_of t ≡ Record.Refused f → length (p.fault f) ≤ room
+  pub line : (e : Entry) → record_of t ≡ Some (Ok e) → length (line_at p calls e t) ≤ room
+  pub fault : (f : Fault) → record_of t ≡ Some (Err f) → length (p.fault f) ≤ room
 
 -- nothing was made of a piece
 pub record Idle (r : Ran) : Type 0 where
   pub none : r.list ≡ []
-  pub end : r.end ≡ Ending.Open
+  pub end : r.end ≡ None
 
 -- A RUN of a program that puts out p: whether what it holds is the last, the table, what it holds of a trace, what has
 -- yet to be read, what it puts out from here on, and the course that it makes. It reads a part; or nothing comes, and
@@ -91,12 +90,12 @@ pub data Run (p : Output) : Bool → List Call → List ℕ → List ℕ → Lis
       → Run p true calls held [] text made → Run p false calls held [] text made
   prints :
       {calls : List Call} {made : Course} (last : Bool) (room : ℕ) (held more : List ℕ) {text : List ℕ}
-      → (trace_run_of p last room calls held).end ≡ Ending.Open
+      → (trace_run_of p last room calls held).end ≡ None
       → Run p last (trace_run_of p last room calls held).calls (drop (trace_run_of p last room calls held).used held) more text made
-      → Run p last calls held more (ran_text p (trace_run_of p last room calls held) ++ text) (followed (trace_run_of p last room calls held) made Ending.Open)
+      → Run p last calls held more (ran_text p (trace_run_of p last room calls held) ++ text) (followed (trace_run_of p last room calls held) made None)
   faults :
-      {calls : List Call} (last : Bool) (room : ℕ) (held more : List ℕ) (f : Fault) → (trace_run_of p last room calls held).end ≡ Ending.By f
-      → Run p last calls held more (ran_text p (trace_run_of p last room calls held)) (followed (trace_run_of p last room calls held) (nothing_at calls) (Ending.By f))
+      {calls : List Call} (last : Bool) (room : ℕ) (held more : List ℕ) (f : Fault) → (trace_run_of p last room calls held).end ≡ Some f
+      → Run p last calls held more (ran_text p (trace_run_of p last room calls held)) (followed (trace_run_of p last room calls held) (nothing_at calls) (Some f))
   ended :
       {calls : List Call} (room : ℕ) (held : List ℕ) → Fits p room calls held → Idle (trace_run_of p true room calls held)
       → Run p true calls held [] [] (nothing_at calls)

@@ -1,21 +1,21 @@
 -- A turn, as the code takes it: a record's line, and where there is nothing to print.
+use Rattle.std.specs.Prelude.{Some, None, Result, Ok}
+use Rattle.memory.specs.declared.Bar.{Bar}
+use Rattle.table.specs.declared.plan.Seat.{Seat}
+use Rattle.table.specs.declared.verdict.Verdict.{Verdict}
 use Prim.Native.Nat.{ℕ, ◌+◌}
 use mathlib.Core.List.{List, []}
 use mathlib.Core.Bool.{Bool, true, false, cond}
 use mathlib.Core.Path.{◌≡◌, refl, ◌∙◌}
 use lib.Dec.{leb}
 use lib.ListN.{length}
-use Rattle.memory.specs.declared.Wrote.{Wrote}
 use Rattle.memory.specs.Room.{placed, Written}
-use Rattle.table.specs.declared.plan.Looked.{Looked}
 use Rattle.table.specs.declared.plan.Plan.{Plan}
 use Rattle.trace.specs.declared.Entry.{Entry}
 use Rattle.trace.specs.Kind.{size_of}
 use Rattle.trace_lines.specs.declared.report.Columns.{Columns}
 use Rattle.trace_lines.specs.Line.{line_of}
-use Rattle.trace_run.specs.declared.turn.Ending.{Ending}
 use Rattle.trace_run.specs.Course.{lines}
-use Rattle.trace_run.specs.declared.front.Front.{Front}
 use Rattle.trace_run.specs.Entry.{columns_of, planned_at}
 use Rattle.trace_run.specs.declared.turn.Stand.{Stand}
 use Rattle.trace_run.specs.declared.turn.Move.{Move}
@@ -25,7 +25,7 @@ use Rattle.trace_run.specs.Move.{Moved}
 use Rattle.memory.proofs.Pieces.{no_put}
 
 -- a record's line
-pub line_prints : (explained : Bool) (e : Entry) (k : Looked) (t : List ℕ) {p : Plan} {cs : Columns} {n : ℕ} {s : Stand} {l l' : List ℕ} {w : Wrote} {r : Move} → p ≡ planned_at k e t → cs ≡ columns_of e p.outcome → n ≡ size_of e.kind → Written true s.wrote (line_of explained cs) l l' w → r ≡ once_written w p.put (s.used + n) (s.records + 1) Ending.Open true s → Moved (lines explained) (Front.Whole e) k t s l l' r
+pub line_prints : (explained : Bool) (e : Entry) (k : Result Seat Verdict) (t : List ℕ) {p : Plan} {cs : Columns} {n : ℕ} {s : Stand} {l l' : List ℕ} {w : Result ℕ Bar} {r : Move} → p ≡ planned_at k e t → cs ≡ columns_of e p.outcome → n ≡ size_of e.kind → Written true s.wrote (line_of explained cs) l l' w → r ≡ once_written w p.put (s.used + n) (s.records + 1) None true s → Moved (lines explained) (Some (Ok e)) k t s l l' r
 line_prints explained e k t ep ec en v er = prints (rw (ec, ep) at v) (rw (en, ep) at er)
 
 -- where there is nothing to print

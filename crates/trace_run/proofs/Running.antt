@@ -1,4 +1,8 @@
 -- A piece that is being worked off: what is left of it makes up what the whole of it makes.
+use Rattle.std.specs.Prelude.{Option, Some, None, Result, Ok, Err}
+use Rattle.table.specs.declared.plan.Seat.{Seat}
+use Rattle.table.specs.declared.verdict.Verdict.{Verdict}
+use Rattle.trace.specs.declared.Field.{Field}
 use Prim.Native.Nat.{ℕ, zero, suc, ◌+◌, ◌-◌, ◌<◌, ◌≤◌}
 use mathlib.Core.List.{List, [], append-nil}
 use mathlib.Core.Bool.{Bool, true, false, cond, true≢false}
@@ -12,21 +16,15 @@ use Rattle.memory.specs.Room.{placed}
 use Rattle.memory.proofs.Pieces.{length_placed, placed_then, no_put}
 use Rattle.call.specs.declared.Call.{Call}
 use Rattle.trace.specs.declared.kind.RecordKind.{RecordKind}
-use Rattle.trace.specs.declared.kind.NamedKind.{NamedKind}
 use Rattle.trace.specs.declared.Entry.{Entry}
 use Rattle.trace.specs.declared.Fault.{Fault}
-use Rattle.trace.specs.declared.Record.{Record}
-use Rattle.trace.specs.declared.ranges.Tested.{Tested}
 use Rattle.trace.specs.Kind.{layout_of, size_of, record_kind_of}
 use Rattle.trace.specs.Ranges.{first_out_of}
 use Rattle.trace.specs.Reading.{record_of, named_of, entry_of, whole_of, element_of}
 use Rattle.trace.proofs.Rows.{least}
-use Rattle.trace_run.specs.declared.front.Front.{Front}
-use Rattle.trace_run.specs.declared.turn.Ending.{Ending}
 use Rattle.trace_run.specs.declared.turn.Stand.{Stand}
 use Rattle.trace_run.specs.declared.turn.Move.{Move}
 use Rattle.table.specs.declared.settle.Outcome.{Outcome}
-use Rattle.table.specs.declared.plan.Looked.{Looked}
 use Rattle.table.specs.Halves.{look_of, committed}
 use Rattle.table.proofs.step.Planned.{plan_told, plan_put}
 use Rattle.table_promises.proofs.Table.{one_place}
@@ -38,27 +36,27 @@ use Rattle.trace_run.specs.Turn.{halts}
 use Rattle.trace_run.specs.Move.{size_in, text_in, beginning, move_in, Moved}
 
 -- nothing stands at the front of no octets
-pub front_empty : (last : Bool) (c : List ℕ) (i : ℕ) → length c ≤ i → front_of last (drop i c) ≡ Front.Waits
+pub front_empty : (last : Bool) (c : List ℕ) (i : ℕ) → length c ≤ i → front_of last (drop i c) ≡ None
 unfolding front_of record_of
 front_empty last c i h = rw (drop_of_length-le c {i = i} h)
 
 -- a whole record is no longer than the piece
 module _ (last : Bool) (t : List ℕ) where
-  cut_short : (b : Bool) → size_in (cond b (Front.Faulty Fault.Short) Front.Waits) ≤ length t
+  cut_short : (b : Bool) → size_in (cond b (Some (Err Fault.Short)) None) ≤ length t
   cut_short true = omega arith
   cut_short false = omega arith
 
-  of_kind : (k : RecordKind) (a : Bool) (x : Tested) → ltb (length t) (size_of k) ≡ a → size_in (heeded_of last (cond a (Record.Refused Fault.Short) (whole_of x (entry_of k t)))) ≤ length t
+  of_kind : (k : RecordKind) (a : Bool) (x : Option Field) → ltb (length t) (size_of k) ≡ a → size_in (heeded_of last (cond a (Some (Err Fault.Short)) (whole_of x (entry_of k t)))) ≤ length t
   unfolding entry_of
   of_kind k true x s = cut_short last
-  of_kind k false Tested.InRange s = ltb-false (length t) (size_of k) s
-  of_kind k false (Tested.Out f) s = omega arith
+  of_kind k false None s = ltb-false (length t) (size_of k) s
+  of_kind k false (Some f) s = omega arith
 
-  of_named : (n : NamedKind) → size_in (heeded_of last (named_of n t)) ≤ length t
-  of_named NamedKind.Unknown = omega arith
-  of_named (NamedKind.Known k) = of_kind k (ltb (length t) (size_of k)) (first_out_of (layout_of k) t) refl
+  of_named : (n : Option RecordKind) → size_in (heeded_of last (named_of n t)) ≤ length t
+  of_named None = omega arith
+  of_named (Some k) = of_kind k (ltb (length t) (size_of k)) (first_out_of (layout_of k) t) refl
 
-  of_record : (b : Bool) → size_in (heeded_of last (cond b Record.End (named_of (record_kind_of (get_or t 0 0)) t))) ≤ length t
+  of_record : (b : Bool) → size_in (heeded_of last (cond b None (named_of (record_kind_of (get_or t 0 0)) t))) ≤ length t
   of_record true = omega arith
   of_record false = of_named (record_kind_of (get_or t 0 0))
 
@@ -69,27 +67,27 @@ module _ (last : Bool) (t : List ℕ) where
 pub front_fits : (last : Bool) (c : List ℕ) (i : ℕ) → i ≤ length c → i + size_in (front_of last (drop i c)) ≤ length c
 front_fits last c i h = let f = fits last (drop i c) in omega (arith, rw length-drop at f)
 
-whole_fits : (last : Bool) (c : List ℕ) (i : ℕ) {e : Entry} → front_of last (drop i c) ≡ Front.Whole e → size_of e.kind ≤ length c - i
+whole_fits : (last : Bool) (c : List ℕ) (i : ℕ) {e : Entry} → front_of last (drop i c) ≡ Some (Ok e) → size_of e.kind ≤ length c - i
 whole_fits last c i h = rw (h, length-drop) at (fits last (drop i c))
 
 -- a fault stands in front of something
-at_end : {f : Fault} (t : Bool) (last : Bool) (c : List ℕ) (i : ℕ) → ltb i (length c) ≡ t → front_of last (drop i c) ≡ Front.Faulty f → i < length c
+at_end : {f : Fault} (t : Bool) (last : Bool) (c : List ℕ) (i : ℕ) → ltb i (length c) ≡ t → front_of last (drop i c) ≡ Some (Err f) → i < length c
 at_end true last c i e h = ltb-true _ _ e
 at_end false last c i e h =
     let w = front_empty last c i (ltb-false _ _ e) in
     let z : ◌≡◌ {A = ℕ} 0 1 = cc in
     absurd (omega arith)
 
-faulty_some : (last : Bool) (c : List ℕ) (i : ℕ) {f : Fault} → front_of last (drop i c) ≡ Front.Faulty f → i < length c
+faulty_some : (last : Bool) (c : List ℕ) (i : ℕ) {f : Fault} → front_of last (drop i c) ≡ Some (Err f) → i < length c
 faulty_some last c i h = at_end (ltb i (length c)) last c i refl h
 
 module _ (p : Output) (last : Bool) (room : ℕ) (table : List Call) (t : List ℕ) where
-  run_waits : (fuel : ℕ) → front_of last t ≡ Front.Waits → run_in fuel p last room table t ≡ rests table
+  run_waits : (fuel : ℕ) → front_of last t ≡ None → run_in fuel p last room table t ≡ rests table
   unfolding run_in
   run_waits zero h = refl
   run_waits (suc k) h = rw h
 
-  run_faulty : (fuel : ℕ) {f : Fault} → 1 ≤ fuel → front_of last t ≡ Front.Faulty f → run_in fuel p last room table t ≡ cond (leb (length (p.fault f)) room) (ends table f) (rests table)
+  run_faulty : (fuel : ℕ) {f : Fault} → 1 ≤ fuel → front_of last t ≡ Some (Err f) → run_in fuel p last room table t ≡ cond (leb (length (p.fault f)) room) (ends table f) (rests table)
   unfolding run_in
   run_faulty zero k h = absurd (omega arith)
   run_faulty (suc n) k h = rw h
@@ -97,7 +95,7 @@ module _ (p : Output) (last : Bool) (room : ℕ) (table : List Call) (t : List �
   abbrev after : ℕ → Entry → Ran
   after fuel e = run_in fuel p last (room - length (line_at p table e t)) (turned_at table e t).calls (drop (size_of e.kind) t)
 
-  run_whole : (fuel : ℕ) {e : Entry} → front_of last t ≡ Front.Whole e → run_in (suc fuel) p last room table t ≡ cond (leb (length (line_at p table e t)) room) (goes (size_of e.kind) (answered_at table e t) (after fuel e)) (rests table)
+  run_whole : (fuel : ℕ) {e : Entry} → front_of last t ≡ Some (Ok e) → run_in (suc fuel) p last room table t ≡ cond (leb (length (line_at p table e t)) room) (goes (size_of e.kind) (answered_at table e t) (after fuel e)) (rests table)
   unfolding run_in
   run_whole fuel h = rw h
 
@@ -144,7 +142,7 @@ module _ (p : Output) (last : Bool) (first : List Call) (c l : List ℕ) (table 
   to_come fuel = run_in fuel p last (length out - k) table (drop i c)
 
   -- nothing is to come
-  stop : (fuel : ℕ) → Going p last first c l fuel table out i k n → to_come fuel ≡ rests table → WorkedOff p last first c l out (record { calls = table; used = i; wrote = k; records = n; end = Ending.Open })
+  stop : (fuel : ℕ) → Going p last first c l fuel table out i k n → to_come fuel ≡ rests table → WorkedOff p last first c l out (record { calls = table; used = i; wrote = k; records = n; end = None })
   stop fuel g e =
       record {
         calls = rw e at g.calls;
@@ -155,20 +153,20 @@ module _ (p : Output) (last : Bool) (first : List Call) (c l : List ℕ) (table 
         buffer = (no_put {at = k} {l = out}).octets ∙ (rw e at g.buffer);
       }
 
-  pub stop_waits : Goes p last first c l table out i k n → front_of last (drop i c) ≡ Front.Waits → WorkedOff p last first c l out (record { calls = table; used = i; wrote = k; records = n; end = Ending.Open })
+  pub stop_waits : Goes p last first c l table out i k n → front_of last (drop i c) ≡ None → WorkedOff p last first c l out (record { calls = table; used = i; wrote = k; records = n; end = None })
   stop_waits s h = stop s.fuel s.going (run_waits p last (length out - k) table (drop i c) s.fuel h)
 
-  module _ {f : Fault} (s : Goes p last first c l table out i k n) (faulty : front_of last (drop i c) ≡ Front.Faulty f) where
+  module _ {f : Fault} (s : Goes p last first c l table out i k n) (faulty : front_of last (drop i c) ≡ Some (Err f)) where
     turns : to_come s.fuel ≡ cond (leb (length (p.fault f)) (length out - k)) (ends table f) (rests table)
     turns = let h = faulty_some last c i faulty in run_faulty p last (length out - k) table (drop i c) s.fuel (omega (arith, s.going.enough)) faulty
 
-    fault_full : length out < k + length (p.fault f) → WorkedOff p last first c l out (record { calls = table; used = i; wrote = k; records = n; end = Ending.Open })
+    fault_full : length out < k + length (p.fault f) → WorkedOff p last first c l out (record { calls = table; used = i; wrote = k; records = n; end = None })
     fault_full r =
         let g = s.going in
         let t = lt-leb (length (p.fault f)) (length out - k) (omega (arith, g.room, r)) in
         stop s.fuel g (turns ∙ ap (λ (b : Bool). cond b (ends table f) (rests table)) t)
 
-    fault_put : k + length (p.fault f) ≤ length out → WorkedOff p last first c l (placed k (p.fault f) out) (record { calls = table; used = i; wrote = k + length (p.fault f); records = n; end = Ending.By f })
+    fault_put : k + length (p.fault f) ≤ length out → WorkedOff p last first c l (placed k (p.fault f) out) (record { calls = table; used = i; wrote = k + length (p.fault f); records = n; end = Some f })
     fault_put r =
         let g = s.going in
         let t = le-leb (length (p.fault f)) (length out - k) (omega (arith, r)) in
@@ -182,7 +180,7 @@ module _ (p : Output) (last : Bool) (first : List Call) (c l : List ℕ) (table 
           buffer = rw u at g.buffer;
         }
 
-  module _ (e : Entry) (whole : front_of last (drop i c) ≡ Front.Whole e) where
+  module _ (e : Entry) (whole : front_of last (drop i c) ≡ Some (Ok e)) where
     abbrev line : List ℕ
     line = line_at p table e (drop i c)
 
@@ -192,7 +190,7 @@ module _ (p : Output) (last : Bool) (first : List Call) (c l : List ℕ) (table 
     chosen : Bool → ℕ → Ran
     chosen b fuel = cond b (goes (size_of e.kind) (answered_at table e (drop i c)) (later fuel)) (rests table)
 
-    line_full : (fuel : ℕ) → Going p last first c l fuel table out i k n → length out < k + length line → WorkedOff p last first c l out (record { calls = table; used = i; wrote = k; records = n; end = Ending.Open })
+    line_full : (fuel : ℕ) → Going p last first c l fuel table out i k n → length out < k + length line → WorkedOff p last first c l out (record { calls = table; used = i; wrote = k; records = n; end = None })
     unfolding chosen
     line_full zero g r =
         let m = whole_fits last c i whole in
@@ -272,7 +270,7 @@ module _ (p : Output) (last : Bool) (first : List Call) (c l : List ℕ) (s : St
   some_left : 0 < left_of c s
   some_left = rw more (omega arith)
 
-  halted : WorkedOff p last first c l out (so_far table s.used s.wrote s.records Ending.Open) → Onward out (halts s)
+  halted : WorkedOff p last first c l out (so_far table s.used s.wrote s.records None) → Onward out (halts s)
   halted w = record { kept' = record { same = kept.same; long = kept.long; counted = kept.counted; going = λ e. absurd (true≢false (sym e)); over = λ _. w }; less = some_left }
 
   shown : (e : Entry) → (planned_at (look_of table e.reference e.event) e t).outcome ≡ (turned_at table e t).outcome
@@ -283,7 +281,7 @@ module _ (p : Output) (last : Bool) (first : List Call) (c l : List ℕ) (s : St
   unfolding planned_at turned_at
   left_so e = plan_put table e.reference e.event (element_of e t)
 
-  line_so : (e : Entry) → text_in p (Front.Whole e) (look_of table e.reference e.event) t ≡ line_at p table e t
+  line_so : (e : Entry) → text_in p (Some (Ok e)) (look_of table e.reference e.event) t ≡ line_at p table e t
   unfolding line_at answered_at
   line_so e = ap (λ (o : Outcome). p.line (record { entry = e; outcome = o })) (shown e)
 
@@ -291,16 +289,16 @@ module _ (p : Output) (last : Bool) (first : List Call) (c l : List ℕ) (s : St
   unfolding turned_at
   same_so e = (one_place table e.reference e.event (element_of e t)).same ∙ kept.same
 
-  abbrev turned : Front → Bool → Move
+  abbrev turned : Option (Result Entry Fault) → Bool → Move
   turned f b = cond b (move_in f (look_of table (reference_in f) (event_in f)) t s (s.wrote + length (text_in p f (look_of table (reference_in f) (event_in f)) t))) (halts s)
 
-  abbrev left : Front → Bool → List ℕ
+  abbrev left : Option (Result Entry Fault) → Bool → List ℕ
   left f b = cond b (placed s.wrote (text_in p f (look_of table (reference_in f) (event_in f)) t) out) out
 
-  turn_by : (f : Front) (b : Bool) → front_of last t ≡ f → leb (s.wrote + length (text_in p f (look_of table (reference_in f) (event_in f)) t)) (length out) ≡ b → Onward (left f b) (turned f b)
-  turn_by Front.Waits true h r = rw (sym (no_put {at = s.wrote} {l = out}).octets) (halted (stop_waits p last first c l table out s.used s.wrote s.records goes_on h))
-  turn_by Front.Waits false h r = halted (stop_waits p last first c l table out s.used s.wrote s.records goes_on h)
-  turn_by (Front.Faulty f) true h r =
+  turn_by : (f : Option (Result Entry Fault)) (b : Bool) → front_of last t ≡ f → leb (s.wrote + length (text_in p f (look_of table (reference_in f) (event_in f)) t)) (length out) ≡ b → Onward (left f b) (turned f b)
+  turn_by None true h r = rw (sym (no_put {at = s.wrote} {l = out}).octets) (halted (stop_waits p last first c l table out s.used s.wrote s.records goes_on h))
+  turn_by None false h r = halted (stop_waits p last first c l table out s.used s.wrote s.records goes_on h)
+  turn_by (Some (Err f)) true h r =
       let n = leb-true _ _ r in
       record {
         kept' =
@@ -313,8 +311,8 @@ module _ (p : Output) (last : Bool) (first : List Call) (c l : List ℕ) (s : St
             };
         less = some_left;
       }
-  turn_by (Front.Faulty f) false h r = halted (fault_full p last first c l table out s.used s.wrote s.records goes_on h (leb-false _ _ r))
-  turn_by (Front.Whole e) true h r =
+  turn_by (Some (Err f)) false h r = halted (fault_full p last first c l table out s.used s.wrote s.records goes_on h (leb-false _ _ r))
+  turn_by (Some (Ok e)) true h r =
       let n = leb-true _ _ (rw (line_so e) at r) in
       let w = whole_fits last c s.used h in
       record {
@@ -328,8 +326,8 @@ module _ (p : Output) (last : Bool) (first : List Call) (c l : List ℕ) (s : St
             };
         less = rw more (omega (arith, least e.kind));
       }
-  turn_by (Front.Whole e) false h r = halted (line_full p last first c l table out s.used s.wrote s.records e h goes_on.fuel goes_on.going (leb-false _ _ (rw (line_so e) at r)))
+  turn_by (Some (Ok e)) false h r = halted (line_full p last first c l table out s.used s.wrote s.records e h goes_on.fuel goes_on.going (leb-false _ _ (rw (line_so e) at r)))
 
-  pub turns_on : {f : Front} {k : Looked} {out' : List ℕ} {m : Move} → f ≡ front_of last t → k ≡ look_of table (reference_in f) (event_in f) → Moved p f k t s out out' m → Onward out' m
+  pub turns_on : {f : Option (Result Entry Fault)} {k : Result Seat Verdict} {out' : List ℕ} {m : Move} → f ≡ front_of last t → k ≡ look_of table (reference_in f) (event_in f) → Moved p f k t s out out' m → Onward out' m
   turns_on {f} {k} ef ek w =
       rw (w.turn, w.buffer, ek) (turn_by f (leb (s.wrote + length (text_in p f (look_of table (reference_in f) (event_in f)) t)) (length out)) (sym ef) refl)

@@ -1,17 +1,16 @@
 -- The course of a trace at a table: its events, each with what it is answered. What a program prints or counts is made
 -- from that list.
+use Rattle.std.specs.Prelude.{Option, Some, None, Result, Ok, Err}
 use Rattle.std.specs.Prelude.{ℕ, zero, suc, List, [], ◌∷◌, ◌++◌, Bool, length, drop}
 use Rattle.call.specs.declared.Call.{Call}
 use Rattle.table.specs.declared.settle.Outcome.{Outcome}
 use Rattle.table.specs.Step.{step_outcome, step_table}
 use Rattle.trace.specs.declared.Entry.{Entry}
 use Rattle.trace.specs.declared.Fault.{Fault}
-use Rattle.trace.specs.declared.Record.{Record}
 use Rattle.trace.specs.Kind.{size_of}
 use Rattle.trace.specs.Reading.{record_of, element_of}
 use Rattle.trace_lines.specs.Line.{line_of}
 use Rattle.trace_lines.specs.Notices.{fault_line}
-use Rattle.trace_run.specs.declared.turn.Ending.{Ending}
 use Rattle.trace_run.specs.Entry.{columns_of}
 
 -- the table that an event leaves, and what it is answered
@@ -39,17 +38,17 @@ answered_at calls e t = record { entry = e; outcome = (turned_at calls e t).outc
 pub record Course : Type 0 where
   pub list : List Answered
   pub calls : List Call
-  pub end : Ending
+  pub end : Option Fault
 
-abbrev pub course_by : Record → List Call → List ℕ → (Entry → Course) → Course
-course_by Record.End calls t after = record { list = []; calls = calls; end = Ending.Open }
-course_by (Record.Refused f) calls t after = record { list = []; calls = calls; end = Ending.By f }
-course_by (Record.Taken e) calls t after =
+abbrev pub course_by : Option (Result Entry Fault) → List Call → List ℕ → (Entry → Course) → Course
+course_by None calls t after = record { list = []; calls = calls; end = None }
+course_by (Some (Err f)) calls t after = record { list = []; calls = calls; end = Some f }
+course_by (Some (Ok e)) calls t after =
     record { list = answered_at calls e t ∷ (after e).list; calls = (after e).calls; end = (after e).end }
 
 -- at most k records
 unfoldable pub course_in : ℕ → List Call → List ℕ → Course
-course_in zero calls t = record { list = []; calls = calls; end = Ending.Open }
+course_in zero calls t = record { list = []; calls = calls; end = None }
 course_in (suc k) calls t =
     course_by (record_of t) calls t (λ e. course_in k (turned_at calls e t).calls (drop (size_of e.kind) t))
 
@@ -63,12 +62,12 @@ pub record Output : Type 0 where
   pub fault : Fault → List ℕ
 
 -- what it puts out at an end
-abbrev pub end_text : Output → Ending → List ℕ
-end_text p Ending.Open = []
-end_text p (Ending.By f) = p.fault f
+abbrev pub end_text : Output → Option Fault → List ℕ
+end_text p None = []
+end_text p (Some f) = p.fault f
 
 -- what it puts out for events and their end
-abbrev pub text_of : Output → List Answered → Ending → List ℕ
+abbrev pub text_of : Output → List Answered → Option Fault → List ℕ
 text_of p [] e = end_text p e
 text_of p (a ∷ rest) e = p.line a ++ text_of p rest e
 

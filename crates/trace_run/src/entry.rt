@@ -2,15 +2,15 @@
 ghost use Rattle.std.specs.Prelude.{◌≡◌};
 ghost use Rattle.trace_run.specs.Entry.{planned_at, columns_of};
 
-use table::plan::{Looked, Plan, plans};
+use table::plan::{Plan, Seat, plans};
 use table::settle::Outcome;
-use table::verdict::verdict_number;
+use table::verdict::{Verdict, verdict_number};
 use trace::{Entry, element};
 use trace_lines::report::Columns;
 
 // The record's event, at what the table shows of it.
 #[tactic(auto, unfolding(crate::specs::Entry::planned_at))]
-pub(crate) fn planned(l: Looked, e: Entry, t: &[u8]) -> Plan
+pub(crate) fn planned(l: Result<Seat, Verdict>, e: Entry, t: &[u8]) -> Plan
     ensures { result ≡ planned_at l e t.now }
 {
     let event = e.event;

@@ -3,20 +3,20 @@
 
 ghost use Rattle.std.specs.Prelude.{◌≡◌, false, ◌+◌, ◌≤◌, length, drop};
 ghost use Rattle.trace.specs.Kind.{size_of};
-ghost use Rattle.trace_run.specs.declared.front.Front.{Front};
 ghost use Rattle.trace_run.specs.Front.{front_of};
 ghost use Rattle.trace_run.specs.Course.{lines};
 ghost use Rattle.trace_run.specs.Run.{so_far, WorkedOff};
 ghost use Rattle.trace_run.specs.Move.{size_in, beginning, Moved};
 
 use crate::entry::{columns_of, planned};
-use crate::front::{Front, event_in, front_of, reference_in};
-use crate::turn::{Ending, Move, Stand, fault_turn, moves, once_written};
+use crate::front::{event_in, front_of, reference_in};
+use crate::turn::{Move, Stand, fault_turn, moves, once_written};
 use call::Call;
-use table::plan::{Change, Looked};
+use table::plan::Seat;
 use table::step::{commit, look};
-use trace::Entry;
+use table::verdict::Verdict;
 use trace::kind::size;
+use trace::{Entry, Fault};
 use trace_lines::report::write_line;
 
 mod entry;
@@ -31,25 +31,32 @@ pub struct Worked {
     pub used: usize,
     pub wrote: usize,
     pub records: usize,
-    pub end: Ending,
+    pub end: Option<Fault>,
 }
 
 // The front of what is left of the piece.
-fn front_at(last: bool, piece: &[u8], s: Stand) -> Front
+fn front_at(last: bool, piece: &[u8], s: Stand) -> Option<Result<Entry, Fault>>
     ensures { result ≡ front_of last (drop s.used piece.now) }
 {
     let i = s.used;
     if i <= piece.len() {
         front_of(last, &piece[i..])
     } else {
-        Front::Waits
+        None
     }
 }
 
 // A whole record prints its line, and only then has something put into the table.
-fn record_turn(piece: &[u8], e: Entry, l: Looked, explained: bool, out: &mut [u8], s: Stand) -> Move
+fn record_turn(
+    piece: &[u8],
+    e: Entry,
+    l: Result<Seat, Verdict>,
+    explained: bool,
+    out: &mut [u8],
+    s: Stand,
+) -> Move
     requires { (s.used + size_of e.kind ≤ length piece.now) × (s.records ≤ s.used) }
-    ensures { Moved (lines explained) (Front.Whole e) l (drop s.used piece.now) s out.old out.new result }
+    ensures { Moved (lines explained) (Some (Ok e)) l (drop s.used piece.now) s out.old out.new result }
 {
     let i = s.used;
     let k = s.wrote;
@@ -62,28 +69,35 @@ fn record_turn(piece: &[u8], e: Entry, l: Looked, explained: bool, out: &mut [u8
     let put = p.put;
     let columns = columns_of(e, outcome);
     let w = write_line(out, k, explained, columns);
-    once_written(w, put, next, records, Ending::Open, true, s)
+    once_written(w, put, next, records, None, true, s)
 }
 
 // One turn: what the front of the piece makes of the run.
-fn decide(piece: &[u8], f: Front, l: Looked, explained: bool, out: &mut [u8], s: Stand) -> Move
+fn decide(
+    piece: &[u8],
+    f: Option<Result<Entry, Fault>>,
+    l: Result<Seat, Verdict>,
+    explained: bool,
+    out: &mut [u8],
+    s: Stand,
+) -> Move
     requires { (s.used + size_in f ≤ length piece.now) × (s.records ≤ s.used) }
     ensures { Moved (lines explained) f l (drop s.used piece.now) s out.old out.new result }
 {
     match f {
-        Front::Waits => {
+        None => {
             let i = s.used;
             let k = s.wrote;
             let n = s.records;
-            moves(Change::Nothing, i, k, n, Ending::Open, false)
+            moves(None, i, k, n, None, false)
         }
-        Front::Faulty(x) => fault_turn(x, out, s),
-        Front::Whole(e) => record_turn(piece, e, l, explained, out, s),
+        Some(Err(x)) => fault_turn(x, out, s),
+        Some(Ok(e)) => record_turn(piece, e, l, explained, out, s),
     }
 }
 
 // The two parts of a turn.
-fn put_in(m: Move) -> Change
+fn put_in(m: Move) -> Option<Seat>
     ensures { result ≡ m.put }
 {
     m.put
@@ -103,7 +117,7 @@ fn at_start() -> Stand
         used: 0,
         wrote: 0,
         records: 0,
-        end: Ending::Open,
+        end: None,
         more: true,
     }
 }

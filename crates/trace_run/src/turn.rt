@@ -4,17 +4,10 @@ ghost use Rattle.std.specs.Prelude.{◌≡◌};
 ghost use Rattle.trace_lines.specs.Notices.{fault_line};
 ghost use Rattle.trace_run.specs.Turn.{move_to, once_written, fault_move, TextTurn};
 
-use memory::Wrote;
-use table::plan::Change;
+use memory::Bar;
+use table::plan::Seat;
 use trace::Fault;
 use trace_lines::notices::write_fault;
-
-// Whether a fault ended a run, and which.
-#[derive(Clone, Copy)]
-pub enum Ending {
-    Open,
-    By(Fault),
-}
 
 // Where a run stands. used: how many octets of the piece; wrote: how many octets of text; records: how many records;
 // end: whether a fault ended the run; more: whether it goes on.
@@ -23,23 +16,23 @@ pub struct Stand {
     pub used: usize,
     pub wrote: usize,
     pub records: usize,
-    pub end: Ending,
+    pub end: Option<Fault>,
     pub more: bool,
 }
 
 // One turn of a run: what is put into the table, and where the run then stands.
 #[derive(Clone, Copy)]
 pub struct Move {
-    pub put: Change,
+    pub put: Option<Seat>,
     pub stand: Stand,
 }
 
 pub(crate) fn moves(
-    put: Change,
+    put: Option<Seat>,
     used: usize,
     wrote: usize,
     records: usize,
-    end: Ending,
+    end: Option<Fault>,
     more: bool,
 ) -> Move
     ensures { result ≡ move_to put used wrote records end more }
@@ -58,11 +51,11 @@ pub(crate) fn moves(
 
 // A text that was written has its turn; one that had no room stops the run where it stands.
 pub(crate) fn once_written(
-    w: Wrote,
-    put: Change,
+    w: Result<usize, Bar>,
+    put: Option<Seat>,
     used: usize,
     records: usize,
-    end: Ending,
+    end: Option<Fault>,
     more: bool,
     s: Stand,
 ) -> Move
@@ -72,8 +65,8 @@ pub(crate) fn once_written(
     let k = s.wrote;
     let n = s.records;
     match w {
-        Wrote::Refused(_) => moves(Change::Nothing, i, k, n, Ending::Open, false),
-        Wrote::To(wrote) => moves(put, used, wrote, records, end, more),
+        Err(_) => moves(None, i, k, n, None, false),
+        Ok(wrote) => moves(put, used, wrote, records, end, more),
     }
 }
 
@@ -85,5 +78,5 @@ pub(crate) fn fault_turn(x: Fault, out: &mut [u8], s: Stand) -> Move
     let k = s.wrote;
     let n = s.records;
     let w = write_fault(out, k, x);
-    once_written(w, Change::Nothing, i, n, Ending::By(x), false, s)
+    once_written(w, None, i, n, Some(x), false, s)
 }

@@ -1,4 +1,6 @@
 -- What a message of a reply says is found again in how it is laid out.
+use Rattle.std.specs.Prelude.{Option, Some, None}
+use Rattle.services.specs.declared.ByService.{ByService}
 use Prim.Native.Nat.{ℕ}
 use mathlib.Core.List.{List, [], ◌∷◌}
 use mathlib.Core.Bool.{Bool, true, false, cond}
@@ -6,9 +8,8 @@ use mathlib.Core.Path.{◌≡◌, refl, sym, ap, ◌∙◌}
 use borrow.Author.Tests.{eq-eqb, ne_eqb}
 use lib.Dec.{eqb}
 use Rattle.facility.specs.declared.Component.{Component}
-use Rattle.facility.specs.declared.Facility.{Facility}
 use Rattle.facility.specs.declared.Refusal.{Refusal}
-use Rattle.facility.specs.declared.Service.{Service}
+use Rattle.rights.specs.declared.Service.{Service}
 use Rattle.facility.specs.declared.Wish.{Wish}
 use Rattle.facility.specs.Facility.{invoke_number}
 use Rattle.message_fields.specs.declared.Facilities.{Facilities as LineFacilities}
@@ -17,7 +18,6 @@ use Rattle.message_fields.specs.declared.Single.{Single}
 use Rattle.elements.specs.Meaning.{and_says, first_three}
 use Rattle.octet_promises.proofs.Promises.{alike}
 use Rattle.octet_promises.proofs.Range.{range_fits}
-use Rattle.services.specs.declared.Facilities.{Facilities}
 use Rattle.services.specs.declared.Said.{Said}
 use Rattle.sent.specs.declared.Level.{Level}
 use Rattle.sent.specs.declared.Message.{Message}
@@ -54,15 +54,15 @@ listed (LineFacilities.One a) = a ∷ []
 listed (LineFacilities.Two a b) = a ∷ b ∷ []
 listed (LineFacilities.Three a b c) = a ∷ b ∷ c ∷ []
 
-list_again : (a b c : Facility) → listed (first_three (and_says a (and_says b (and_says c [])))) ≡ and_says a (and_says b (and_says c []))
-list_again Facility.Absent Facility.Absent Facility.Absent = refl
-list_again Facility.Absent Facility.Absent (Facility.Says z) = refl
-list_again Facility.Absent (Facility.Says y) Facility.Absent = refl
-list_again Facility.Absent (Facility.Says y) (Facility.Says z) = refl
-list_again (Facility.Says x) Facility.Absent Facility.Absent = refl
-list_again (Facility.Says x) Facility.Absent (Facility.Says z) = refl
-list_again (Facility.Says x) (Facility.Says y) Facility.Absent = refl
-list_again (Facility.Says x) (Facility.Says y) (Facility.Says z) = refl
+list_again : (a b c : Option Component) → listed (first_three (and_says a (and_says b (and_says c [])))) ≡ and_says a (and_says b (and_says c []))
+list_again None None None = refl
+list_again None None (Some z) = refl
+list_again None (Some y) None = refl
+list_again None (Some y) (Some z) = refl
+list_again (Some x) None None = refl
+list_again (Some x) None (Some z) = refl
+list_again (Some x) (Some y) None = refl
+list_again (Some x) (Some y) (Some z) = refl
 
 taken_if : {A : Type 0} (b : Bool) (x y : A) → b ≡ true → cond b x y ≡ x
 taken_if b x y h = rw h refl
@@ -86,7 +86,7 @@ past id at k Said.Accepted ks n = left_if _ _ _ (ne_eqb at id n)
 past id at k Said.ByUser ks n = left_if _ _ _ (ne_eqb at id n)
 past id at k Said.ByNetwork ks n = left_if _ _ _ (ne_eqb at id n)
 
-module _ (h : Host) (d : Different h) (s : Facilities) where
+module _ (h : Host) (d : Different h) (s : ByService Said) where
   abbrev last : List Component
   last = and_says (component_for h.three Service.Three s.three) []
 

@@ -1,4 +1,8 @@
 -- What a call says is in range for the writer, and so is written and read back.
+use Rattle.std.specs.Prelude.{Option, Some, None}
+use Rattle.services.specs.declared.ByService.{ByService}
+use Rattle.services.specs.declared.Request.{Request}
+use Rattle.answering_rules.specs.declared.Fate.{Fate}
 use Prim.Native.Nat.{ℕ, ◌≤◌}
 use mathlib.Core.List.{List, [], ◌∷◌}
 use mathlib.Core.Bool.{Bool, true, false, cond}
@@ -7,7 +11,7 @@ use mathlib.Core.Path.{◌≡◌, refl, sym, ap, ◌∙◌}
 use native.Mathlib.Omega.{arith}
 use lib.ListN.{length}
 use Rattle.facility.specs.declared.Component.{Component}
-use Rattle.facility.specs.declared.Service.{Service}
+use Rattle.rights.specs.declared.Service.{Service}
 use Rattle.facility.specs.Facility.{invoke_number}
 use Rattle.memory.specs.Numbers.{wrote_number}
 use Rattle.message_fields.specs.declared.Message.{Message as LineMessage}
@@ -19,20 +23,14 @@ use Rattle.octet_promises.proofs.Range.{range_fits}
 use Rattle.octet_promises.proofs.Trip.{message_back}
 use Rattle.writer.specs.Writing.{message_octets}
 use Rattle.message_fields.specs.Numbers.{read_number}
-use Rattle.cause.specs.declared.Cause.{Cause}
 use Rattle.user_element.specs.declared.Note.{Note}
 use Rattle.user_element.specs.declared.Seen.{Seen}
 use Rattle.rights.specs.declared.Rights.{Rights}
-use Rattle.services.specs.declared.Facilities.{Facilities}
-use Rattle.answering_rules.specs.declared.Fates.{Fates}
-use Rattle.services.specs.declared.Requests.{Requests}
 use Rattle.services.specs.declared.Said.{Said}
 use Rattle.answer.specs.declared.Answer.{Answer}
 use Rattle.message_types.specs.declared.Kind.{Kind}
 use Rattle.sent.specs.declared.Level.{Level}
 use Rattle.sent.specs.declared.Message.{Message}
-use Rattle.sent.specs.declared.Sent.{Sent}
-use Rattle.sent.specs.declared.dispatch.Carrier.{Carrier}
 use Rattle.phases.specs.declared.Phase.{Phase}
 use Rattle.sent.specs.declared.side.Side.{Side}
 use Rattle.call.specs.declared.Call.{Call}
@@ -87,7 +85,7 @@ says_in id k Said.Accepted ks i n = (i, n)
 says_in id k Said.ByUser ks i n = (i, n)
 says_in id k Said.ByNetwork ks i n = (i, n)
 
-facilities_in : (h : Host) (s : Facilities) → HostInRange h → FacilitiesIn (facilities_for h s)
+facilities_in : (h : Host) (s : ByService Said) → HostInRange h → FacilitiesIn (facilities_for h s)
 facilities_in h s i =
     let last = and_says (component_for h.three Service.Three s.three) [] in
     let later = and_says (component_for h.two Service.Two s.two) last in
@@ -110,9 +108,9 @@ pub record Fits (limit : ℕ) (m : Message) : Type 0 where
   pub more : more_in (single_for m.level m.more) ≡ m.more
   cause : CauseIn m.cause
 
-abbrev Sends : ℕ → Sent → Type 0
-Sends limit Sent.Absent = Unit {0}
-Sends limit (Sent.Present m) = Fits limit m
+abbrev Sends : ℕ → Option Message → Type 0
+Sends limit None = Unit {0}
+Sends limit (Some m) = Fits limit m
 
 record Speaks (limit : ℕ) (r : Reply) : Type 0 where
   calling : Sends limit r.dispatch.calling
@@ -132,11 +130,11 @@ live_speaks c a g r h v f =
     heard_speaks _ c a g r h (λ s t k. f (in_range_lem c s (v t)).rights.limit.1 k)
 
 module _ (limit : ℕ) (most : limit ≤ 131) where
-  only_sends : (b : Bool) (s : Sent) → Sends limit s → Sends limit (only_if_of b s)
+  only_sends : (b : Bool) (s : Option Message) → Sends limit s → Sends limit (only_if_of b s)
   unfolding only_if_of
   only_sends b s p = by_cond (Sends limit) b (λ _. p) (λ _. tt)
 
-  saying_sends : (kind : Kind) (cause : Cause) (said : Facilities) (element : Bool) → SingleIn kind Single.Absent → CauseIn cause → Sends limit (saying_of kind cause said element)
+  saying_sends : (kind : Kind) (cause : Option ℕ) (said : ByService Said) (element : Bool) → SingleIn kind Single.Absent → CauseIn cause → Sends limit (saying_of kind cause said element)
   unfolding saying_of
   saying_sends kind cause said element s k = record { most = most; single = s; more = refl; cause = k }
 
@@ -149,12 +147,12 @@ module _ (limit : ℕ) (most : limit ≤ 131) where
   unfolding congestion_of
   congestion_sends level s k = record { most = most; single = s; more = k; cause = omega arith }
 
-  side_speaks : (side : Side) (d : Call) (a : Answer) (note : Note) (back on : Sent) (x : Carrier) → Sends limit back → Sends limit on → Speaks limit (reply_of side d a note back on x)
+  side_speaks : (side : Side) (d : Call) (a : Answer) (note : Note) (back on : Option Message) (x : Option Service) → Sends limit back → Sends limit on → Speaks limit (reply_of side d a note back on x)
   unfolding reply_of
   side_speaks Side.Calling d a note back on x p w = record { calling = p; called = w }
   side_speaks Side.Called d a note back on x p w = record { calling = w; called = p }
 
-  setup_speaks : (reference : ℕ) (rights : Rights) (q : Requests) (seen : Seen) → Speaks limit (proceeds_of reference rights q seen)
+  setup_speaks : (reference : ℕ) (rights : Rights) (q : ByService Request) (seen : Seen) → Speaks limit (proceeds_of reference rights q seen)
   unfolding proceeds_of to_caller_of to_called_of
   setup_speaks reference rights q seen =
       record {
@@ -163,13 +161,13 @@ module _ (limit : ℕ) (most : limit ≤ 131) where
         called = by_cond (Sends limit) (lacks_of rights q) (λ _. tt) (λ _. saying_sends _ _ _ _ refl tt);
       }
 
-  outcome_speaks : (c : Call) (kind : Kind) (next : Phase) (f : Fates) (seen : Seen) (x : Bool) → SingleIn kind Single.Absent → Speaks limit (answering_of c kind next f seen x)
+  outcome_speaks : (c : Call) (kind : Kind) (next : Phase) (f : ByService Fate) (seen : Seen) (x : Bool) → SingleIn kind Single.Absent → Speaks limit (answering_of c kind next f seen x)
   unfolding goes_on_of clears_of bare_of
   outcome_speaks c kind next f seen false s = record { calling = saying_sends _ _ _ _ s tt; called = tt }
   outcome_speaks c kind next f seen true s =
       record { calling = saying_sends _ _ _ _ refl (omega arith); called = saying_sends _ _ _ _ refl (omega arith) }
 
-  answered_speaks : (c : Call) (kind : Kind) (next : Phase) (f : Fates) (l : List ℕ) → SingleIn kind Single.Absent → Speaks limit (answered_of c kind next f l)
+  answered_speaks : (c : Call) (kind : Kind) (next : Phase) (f : ByService Fate) (l : List ℕ) → SingleIn kind Single.Absent → Speaks limit (answered_of c kind next f l)
   unfolding answered_of
   answered_speaks c kind next f l s = outcome_speaks c kind next f _ (failed_of f) s
 
@@ -224,7 +222,7 @@ speaks c Event.CongestionControl l = refused_speaks _ c _ _
 
 -- the message to a side
 module _ (c : Call) (e : Event) (l : List ℕ) where
-  pub sent_fits : (side : Side) (m : Message) → sent_to (step_of c e l) side ≡ Sent.Present m → Fits (limit_for c e) m
+  pub sent_fits : (side : Side) (m : Message) → sent_to (step_of c e l) side ≡ Some m → Fits (limit_for c e) m
   sent_fits Side.Calling m h = let p = (speaks c e l).calling in rw h at p
   sent_fits Side.Called m h = let p = (speaks c e l).called in rw h at p
 
@@ -236,18 +234,18 @@ formed_user l limit w k m =
 non_empty : (x : ℕ) (xs : List ℕ) → x ∷ xs ≡ [] → ⊥
 non_empty x xs h = let z : length (x ∷ xs) ≡ 0 = ap length h in omega arith
 
-goes_user : (c : Call) (e : Event) (l : List ℕ) (side : Side) (m : Message) → sent_to (step_of c e l) side ≡ Sent.Present m → m.element ≡ true → (length l ≡ 0) ⊎ UserElement l
+goes_user : (c : Call) (e : Event) (l : List ℕ) (side : Side) (m : Message) → sent_to (step_of c e l) side ≡ Some m → m.element ≡ true → (length l ≡ 0) ⊎ UserElement l
 goes_user c e [] side m h g = inl refl
 goes_user c e (x ∷ xs) side m h g =
     let own : handed_to step_of c e (x ∷ xs) side ≡ x ∷ xs = rw (h, g) refl in
     let w = unaltered c e (x ∷ xs) side (λ n. non_empty x xs (sym own ∙ n)) in
     inr (formed_user _ (limit_for c e) w.formed w.limit (sent_fits c e (x ∷ xs) side m h).most)
 
-handed_user : (c : Call) (e : Event) (l : List ℕ) (side : Side) (m : Message) → sent_to (step_of c e l) side ≡ Sent.Present m → (length (handed_in (Sent.Present m) l) ≡ 0) ⊎ UserElement (handed_in (Sent.Present m) l)
+handed_user : (c : Call) (e : Event) (l : List ℕ) (side : Side) (m : Message) → sent_to (step_of c e l) side ≡ Some m → (length (handed_in (Some m) l) ≡ 0) ⊎ UserElement (handed_in (Some m) l)
 handed_user c e l side m h =
     by_cond (λ (u : List ℕ). (length u ≡ 0) ⊎ UserElement u) m.element (goes_user c e l side m h) (λ _. inl refl)
 
-pub laid_out : (c : Call) (e : Event) (l : List ℕ) (side : Side) (m : Message) → sent_to (step_of c e l) side ≡ Sent.Present m → (h : Host) → HostInRange h → InRange (wire_of h m) (handed_in (Sent.Present m) l)
+pub laid_out : (c : Call) (e : Event) (l : List ℕ) (side : Side) (m : Message) → sent_to (step_of c e l) side ≡ Some m → (h : Host) → HostInRange h → InRange (wire_of h m) (handed_in (Some m) l)
 laid_out c e l side m s h i =
     let f = sent_fits c e l side m s in
     record {

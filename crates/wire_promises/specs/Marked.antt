@@ -1,6 +1,6 @@
 -- The paper's edges that are marked P, those on reading and those on calls, as one table.
+use Rattle.std.specs.Prelude.{Some, None}
 use Rattle.std.specs.Prelude.{ℕ, List, [], ◌∷◌, ◌++◌, Bool, true, false, ◌≡◌, replicate}
-use Rattle.cause.specs.declared.Cause.{Cause}
 use Rattle.services.specs.declared.Request.{Request}
 use Rattle.message_types.specs.declared.Kind.{Kind}
 use Rattle.phases.specs.declared.Phase.{Phase}
@@ -39,8 +39,8 @@ element_case limit n note carried =
       answer = 0;
       note = note;
       phase = Phase.Requested;
-      calling = message Kind.CallProceeding Cause.Absent false;
-      called = message Kind.Setup Cause.Absent carried;
+      calling = message Kind.CallProceeding None false;
+      called = message Kind.Setup None carried;
     })
 
 -- "P empty message: 1. P 260 octets may read, 261: 2.
@@ -65,15 +65,15 @@ cases =
       answer = 0;
       note = 0;
       phase = Phase.Clearing;
-      calling = message Kind.Disconnect (Cause.Value 69) false;
-      called = message Kind.Disconnect (Cause.Value 31) false;
+      calling = message Kind.Disconnect (Some 69) false;
+      called = message Kind.Disconnect (Some 31) false;
     })
     ∷ event [] (setup 5 Request.Unasked Request.Required Request.Unasked 131 [])
     (record {
       answer = 0;
       note = 0;
       phase = Phase.Ended;
-      calling = message Kind.ReleaseComplete (Cause.Value 50) false;
+      calling = message Kind.ReleaseComplete (Some 50) false;
       called = nothing;
     })
     ∷ []

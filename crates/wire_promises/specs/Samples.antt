@@ -1,11 +1,12 @@
 -- What is written for messages of real calls, octet by octet, and the element that is read from there.
+use Rattle.std.specs.Prelude.{Option, Some, None, Result, Ok, Err}
+use Rattle.memory.specs.declared.Bar.{Bar}
+use Rattle.sent.specs.declared.Message.{Message}
 use Rattle.std.specs.Prelude.{ℕ, ◌+◌, List, [], ◌∷◌, ◌++◌, true, false, ◌≡◌, take, replicate}
-use Rattle.memory.specs.declared.Wrote.{Wrote}
 use Rattle.message_fields.specs.declared.Width.{Width}
 use Rattle.message.specs.Parts.{user_user_of}
 use Rattle.services.specs.declared.Given.{Given}
 use Rattle.services.specs.declared.Request.{Request}
-use Rattle.sent.specs.declared.Sent.{Sent}
 use Rattle.sent.specs.declared.side.Side.{Side}
 use Rattle.event.specs.declared.Event.{Event}
 use Rattle.call.specs.Sound.{fresh_call}
@@ -31,13 +32,13 @@ host = record { width = Width.One; flag = false; reference = 5; one = 11; two = 
 abbrev pub buffer : List ℕ
 buffer = replicate 100 0xFF
 
-abbrev pub written_in : Wrote → List ℕ → List ℕ
-written_in (Wrote.To n) b = take n b
-written_in (Wrote.Refused bar) b = []
+abbrev pub written_in : Result ℕ Bar → List ℕ → List ℕ
+written_in (Ok n) b = take n b
+written_in (Err bar) b = []
 
-abbrev pub line_of : Sent → List ℕ → List ℕ
-line_of Sent.Absent l = []
-line_of (Sent.Present m) l = written_in (answer_to host m l buffer) (left_in host m l buffer)
+abbrev pub line_of : Option Message → List ℕ → List ℕ
+line_of None l = []
+line_of (Some m) l = written_in (answer_to host m l buffer) (left_in host m l buffer)
 
 abbrev pub AllSent : List Sample → Type 0
 AllSent [] = Unit {0}

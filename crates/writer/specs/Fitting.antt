@@ -1,7 +1,7 @@
 -- The fields of a message that are in range.
+use Rattle.std.specs.Prelude.{Option, Some, None}
 use Rattle.std.specs.Prelude.{ℕ, List, Bool, true, false, ◌&&◌, ltb}
 use Rattle.user_element.specs.Writable.{element_fits_of}
-use Rattle.cause.specs.declared.Cause.{Cause}
 use Rattle.cause.specs.Element.{cause_fits}
 use Rattle.facility.specs.Facility.{component_fits}
 use Rattle.message_types.specs.declared.Class.{Class}
@@ -46,9 +46,9 @@ class_fits Class.Congestion s = level_fits s
 abbrev pub single_fits : Kind → Single → Bool
 single_fits k s = class_fits (class_of k) s
 
-abbrev pub causes_fit : Cause → Bool
-causes_fit Cause.Absent = true
-causes_fit (Cause.Value v) = cause_fits v
+abbrev pub causes_fit : Option ℕ → Bool
+causes_fit None = true
+causes_fit (Some v) = cause_fits v
 
 abbrev pub facilities_fit : Facilities → Bool
 facilities_fit Facilities.Zero = true

@@ -1,6 +1,6 @@
 -- The octets of a message that is written.
+use Rattle.std.specs.Prelude.{Option, Some, None}
 use Rattle.std.specs.Prelude.{ℕ, ◌+◌, ◌/◌, ◌%◌, List, [], ◌∷◌, ◌++◌, Bool, true, false}
-use Rattle.cause.specs.declared.Cause.{Cause}
 use Rattle.cause.specs.Element.{cause_octets}
 use Rattle.facility.specs.Filling.{facility_octets}
 use Rattle.message_fields.specs.declared.Width.{Width}
@@ -30,9 +30,9 @@ single_octets Single.MoreData = 0xA0 ∷ []
 single_octets Single.Ready = 0xB0 ∷ []
 single_octets Single.NotReady = 0xBF ∷ []
 
-abbrev pub causes_octets : Cause → List ℕ
-causes_octets Cause.Absent = []
-causes_octets (Cause.Value v) = cause_octets v
+abbrev pub causes_octets : Option ℕ → List ℕ
+causes_octets None = []
+causes_octets (Some v) = cause_octets v
 
 -- "at most three Facility elements, in the order given"
 abbrev pub facilities_octets : Facilities → List ℕ

@@ -2,7 +2,6 @@
 ghost use Rattle.std.specs.Prelude.{◌≡◌};
 ghost use Rattle.writer.specs.Fitting.{reference_fits, plain_fits, more_fits, level_fits, single_fits, causes_fit, facilities_fit, message_fits};
 
-use cause::Cause;
 use facility::component_fits;
 use message_fields::{Facilities, Message, Single, Width};
 use message_types::{Class, Kind, class_of};
@@ -62,12 +61,12 @@ fn single_fits(k: Kind, s: Single) -> bool
     }
 }
 
-fn causes_fit(c: Cause) -> bool
+fn causes_fit(c: Option<u8>) -> bool
     ensures { result ≡ causes_fit c }
 {
     match c {
-        Cause::Absent => true,
-        Cause::Value(v) => v < 128,
+        None => true,
+        Some(v) => v < 128,
     }
 }
 

@@ -11,11 +11,10 @@ ghost use Rattle.writer.specs.Writing.{top_of, header_octets, single_octets, cau
 
 use crate::fitting::message_fits;
 use crate::sizes::front_size;
-use cause::Cause;
 use cause::element::write_cause;
 use facility::Component;
 use facility::filling::write_facility;
-use memory::{Bar, Wrote, end_of, write_octets};
+use memory::{Bar, end_of, write_octets};
 use message_fields::{Facilities, Header, Message, Single, Width};
 use message_types::kind_octet;
 
@@ -74,13 +73,13 @@ fn put_single(buf: &mut [u8], at: usize, s: Single) -> usize
     end_of(write_octets(buf, at, &[octet]))
 }
 
-fn put_cause(buf: &mut [u8], at: usize, c: Cause) -> usize
+fn put_cause(buf: &mut [u8], at: usize, c: Option<u8>) -> usize
     requires { (causes_fit c ≡ true) × (at + length (causes_octets c) ≤ length buf.old) }
     ensures { Put at (causes_octets c) buf.old buf.new result }
 {
     match c {
-        Cause::Absent => at,
-        Cause::Value(v) => end_of(write_cause(buf, at, v)),
+        None => at,
+        Some(v) => end_of(write_cause(buf, at, v)),
     }
 }
 
@@ -110,7 +109,7 @@ fn put_facilities(buf: &mut [u8], at: usize, f: Facilities) -> usize
     }
 }
 
-// The single octet first, then Cause, Facility, User-user.
+// The single octet first, then Option<u8>, Facility, User-user.
 #[tactic(auto, unfolding(crate::specs::Writing::front_octets, crate::specs::Writing::message_octets))]
 fn put_message(buf: &mut [u8], w: Message, user: &[u8]) -> usize
     requires { (message_fits w user.now ≡ true) × (length (message_octets w user.now) ≤ length buf.old) }
@@ -128,15 +127,15 @@ fn put_message(buf: &mut [u8], w: Message, user: &[u8]) -> usize
 }
 
 // Writes a message with its user-user element, or no octet at all.
-pub fn write_message(buf: &mut [u8], w: Message, user: &[u8]) -> Wrote
+pub fn write_message(buf: &mut [u8], w: Message, user: &[u8]) -> Result<usize, Bar>
     ensures { Written (message_fits w user.now) 0 (message_octets w user.now) buf.old buf.new result }
 {
     if !message_fits(w, user) {
-        return Wrote::Refused(Bar::Range);
+        return Err(Bar::Range);
     }
     let n = front_size(w) + user.len();
     if buf.len() < n {
-        return Wrote::Refused(Bar::Room);
+        return Err(Bar::Room);
     }
-    Wrote::To(put_message(buf, w, user))
+    Ok(put_message(buf, w, user))
 }

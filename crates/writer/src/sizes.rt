@@ -4,7 +4,6 @@ ghost use Rattle.facility.specs.Filling.{facility_octets};
 ghost use Rattle.writer.specs.Writing.{single_octets, causes_octets, facilities_octets, front_octets};
 ghost use Rattle.message_fields.specs.Width.{header_size};
 
-use cause::Cause;
 use facility::Component;
 use message_fields::{Facilities, Message, Single, Width, width_size};
 
@@ -25,12 +24,12 @@ fn single_size(s: Single) -> usize
     }
 }
 
-fn cause_size(c: Cause) -> usize
+fn cause_size(c: Option<u8>) -> usize
     ensures { result ≡ length (causes_octets c) }
 {
     match c {
-        Cause::Absent => 0,
-        Cause::Value(_) => 4,
+        None => 0,
+        Some(_) => 4,
     }
 }
 

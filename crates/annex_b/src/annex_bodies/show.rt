@@ -2,8 +2,8 @@
 use crate::annex_case::{case, wrote};
 use facility::Component;
 use facility::filling::write_facility;
+use memory::stretch::stretch;
 use memory::{end_of, write_octets};
-use message::parts::part;
 use message_fields::Place;
 use message_line::write_line;
 
@@ -20,8 +20,8 @@ pub(crate) fn reads_body(page: &mut [u8; 4096], name: &[u8], body: &[u8], expect
     let l = end_of(write_octets(&mut m, k, &[length_octet(body)]));
     let n = end_of(write_octets(&mut m, l, body));
     let mut line = [0u8; 256];
-    let e = end_of(write_line(&mut line, 0, 0, part(&m, Place::At(0, n))));
-    let found = part(&line, Place::At(15, e.wrapping_sub(18)));
+    let e = end_of(write_line(&mut line, 0, 0, stretch(&m, 0, n)));
+    let found = stretch(&line, 15, e.wrapping_sub(18));
     case(page, name, found, check::same(found, expected));
 }
 

@@ -3,7 +3,7 @@ use crate::annex_case::{case, wrote};
 use memory::end_of;
 use message::parts::{part, user_user};
 use message::read_message;
-use message_fields::{Message, Place, Read};
+use message_fields::{Message, Place};
 use message_line::write_line;
 use writer::write_message;
 
@@ -11,7 +11,7 @@ use writer::write_message;
 pub(crate) fn reads(page: &mut [u8; 4096], name: &[u8], m: &[u8], expected: &[u8]) {
     let mut line = [0u8; 256];
     let n = end_of(write_line(&mut line, 0, 0, m));
-    let found = part(&line, Place::At(2, n.wrapping_sub(3)));
+    let found = stretch(&line, 2, n.wrapping_sub(3));
     case(page, name, found, check::same(found, expected));
 }
 
@@ -46,10 +46,10 @@ pub(crate) fn writes_nowhere(
 pub(crate) fn both(page: &mut [u8; 4096], name: &[u8], m: &[u8], expected: &[u8]) {
     reads(page, name, m, expected);
     match read_message(m) {
-        Read::Taken(r) => {
+        Ok(r) => {
             let w = r.message;
             writes_message(page, b"  written", w, user_user(m), m);
         }
-        Read::Refused(_) => case(page, b"  written", b"-", false),
+        Err(_) => case(page, b"  written", b"-", false),
     }
 }

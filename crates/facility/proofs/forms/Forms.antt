@@ -1,4 +1,6 @@
 -- A body that has a form is read by it.
+use Rattle.std.specs.Prelude.{Option, None}
+use Rattle.facility.specs.declared.Component.{Component}
 use Prim.Native.Nat.{ℕ, suc, ◌+◌, ◌<◌, ◌≤◌}
 use mathlib.Core.List.{List, [], ◌∷◌, map}
 use mathlib.Core.Bool.{Bool, true, false, cond, ◌&&◌, ◌||◌, true≢false}
@@ -8,7 +10,6 @@ use borrow.Author.Tests.{eq-eqb, ne_eqb, eqb-true}
 use lib.ListN.{length, get_or, drop, drop_of_length-le}
 use lib.Seq.{drop-cons}
 use lib.Dec.{eqb, ltb}
-use Rattle.facility.specs.declared.Facility.{Facility}
 use Rattle.facility.specs.Forms.{Slot, is, blank, slot_of, size, stand, spells, read_as}
 
 -- octets compared with a form one by one: the next of them, and the end of them
@@ -45,12 +46,12 @@ first true t h = refl
 first false t h = absurd (true≢false (sym h))
 
 -- a body that has the form and an invoke number is read; another is absent
-read_by_lem : (s n : Bool) (says : Facility) → cond s n false ≡ true → says ≡ cond s (cond n says Facility.Absent) Facility.Absent
+read_by_lem : (s n : Bool) (says : Option Component) → cond s n false ≡ true → says ≡ cond s (cond n says None) None
 read_by_lem true true says h = refl
 read_by_lem true false says h = absurd (true≢false (sym h))
 read_by_lem false n says h = absurd (true≢false (sym h))
 
-not_read_by : (s n : Bool) (says : Facility) → cond s n false ≡ false → Facility.Absent ≡ cond s (cond n says Facility.Absent) Facility.Absent
+not_read_by : (s n : Bool) (says : Option Component) → cond s n false ≡ false → None ≡ cond s (cond n says None) None
 not_read_by true true says h = absurd (true≢false h)
 not_read_by true false says h = refl
 not_read_by false n says h = refl
@@ -61,11 +62,11 @@ module _ (f : List Slot) (b : List ℕ) where
   spelt_long h = eqb-true (length b) (size f) (first (eqb (length b) (size f)) (stand true 0 f b) h)
 
   module _ {t : Bool} (e : t ≡ cond (spells f b) (ltb (get_or b 5 0) 128) false) where
-    pub read : t ≡ true → (says : Facility) → says ≡ read_as f b says
+    pub read : t ≡ true → (says : Option Component) → says ≡ read_as f b says
     unfolding read_as
     read h says = read_by_lem (spells f b) (ltb (get_or b 5 0) 128) says (sym e ∙ h)
 
-    pub not_read : t ≡ false → (says : Facility) → Facility.Absent ≡ read_as f b says
+    pub not_read : t ≡ false → (says : Option Component) → None ≡ read_as f b says
     unfolding read_as
     not_read h says = not_read_by (spells f b) (ltb (get_or b 5 0) 128) says (sym e ∙ h)
 

@@ -2,5 +2,5 @@
 use Rattle.trace_run.proofs.Moving.{waits}
 use Rattle.trace_run.proofs.decide.Goals as goal
 
-pub returns-in-Waits : goal.returns-in-Waits
-returns-in-Waits c = rw c.in-Waits.is (waits _ _ c.moves.ensures)
+pub returns-in-None : goal.returns-in-None
+returns-in-None c = rw c.in-None.is (waits _ _ c.moves.ensures)

@@ -1,11 +1,11 @@
 -- How many octets the parts of a message take.
+use Rattle.std.specs.Prelude.{Option, Some, None}
 use Prim.Native.Nat.{ℕ, ◌+◌, ◌≤◌}
 use mathlib.Core.List.{List, [], ◌∷◌, ◌++◌}
 use mathlib.Core.Bool.{Bool}
 use mathlib.Core.Path.{◌≡◌, refl}
 use native.Mathlib.Omega.{arith}
 use lib.ListN.{length, length-append}
-use Rattle.cause.specs.declared.Cause.{Cause}
 use Rattle.facility.specs.declared.Component.{Component}
 use Rattle.facility.specs.Filling.{filled, facility_octets}
 use Rattle.message_types.specs.declared.Kind.{Kind}
@@ -31,9 +31,9 @@ single_small Single.MoreData = omega arith
 single_small Single.Ready = omega arith
 single_small Single.NotReady = omega arith
 
-cause_small : (c : Cause) → length (causes_octets c) ≤ 4
-cause_small Cause.Absent = omega arith
-cause_small (Cause.Value v) = omega arith
+cause_small : (c : Option ℕ) → length (causes_octets c) ≤ 4
+cause_small None = omega arith
+cause_small (Some v) = omega arith
 
 component_small : (c : Component) → length (facility_octets c) ≤ 19
 unfolding filled
