@@ -1,6 +1,5 @@
 -- The Cause element.
-use Rattle.std.specs.Prelude.{Option, Some, None}
-use Rattle.std.specs.Prelude.{ℕ, ◌+◌, ◌%◌, List, [], ◌∷◌, Bool, cond, length, get_or, ltb, leb}
+use Rattle.std.specs.Prelude.{Option, Some, None, ℕ, ◌+◌, ◌%◌, List, [], ◌∷◌, Bool, cond, length, get_or, ltb, leb}
 
 -- "the low seven bits of the octet after the location octet and its extension, absent without that octet": a location
 -- octet below 80 hexadecimal has an extension, one of 80 or more has none

@@ -1,4 +1,4 @@
-// Causes: the values that the box gives. `element` has what a Option<u8> element says.
+// Causes: the values that the box gives. `element` has what a Cause element says.
 #![tactic(auto)]
 
 pub mod element;

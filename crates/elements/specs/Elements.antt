@@ -1,6 +1,5 @@
 -- "Elements: an octet of 80 or more stands alone; otherwise a length octet and that many octets follow."
-use Rattle.std.specs.Prelude.{Option, Some, None}
-use Rattle.std.specs.Prelude.{ℕ, zero, suc, ◌+◌, ◌-◌, ◌<◌, ◌≤◌, List, [], ◌∷◌, ◌≡◌, Bool, true, false, cond, ◌&&◌, length, get_or, take, drop, leb}
+use Rattle.std.specs.Prelude.{Option, Some, None, ℕ, zero, suc, ◌+◌, ◌-◌, ◌<◌, ◌≤◌, List, [], ◌∷◌, ◌≡◌, Bool, true, false, cond, ◌&&◌, length, get_or, take, drop, leb}
 
 -- where an element starts, its first octet, and the octets after its length
 pub record Element : Type 0 where

@@ -3,3 +3,4 @@ pub mod Meaning
 pub mod Scan
 pub mod Single
 pub mod SoFar
+pub mod Walk

@@ -1,7 +1,6 @@
 -- What the elements of a message say that count.
-use Rattle.std.specs.Prelude.{Option, Some, None, Result, Ok, Err, ℕ}
+use Rattle.std.specs.Prelude.{Option, Some, None, Result, Ok, Err, ℕ, ◌+◌, List, [], ◌∷◌, false, cond, length, eqb}
 use Rattle.message_fields.specs.declared.Place.{Place}
-use Rattle.std.specs.Prelude.{◌+◌, List, [], ◌∷◌, false, cond, length, eqb}
 use Rattle.facility.specs.declared.Component.{Component}
 use Rattle.cause.specs.Element.{cause_of}
 use Rattle.facility.specs.Forms.{facility_of}

@@ -1,14 +1,14 @@
 -- What the scan carries along. Nobody has to believe this: the reader's contract does not cite it.
-use Rattle.std.specs.Prelude.{Option, Some, None, Result, Ok, ℕ}
+use Rattle.std.specs.Prelude.{Option, Some, None, Result, Ok, Err, ℕ, List, [], ◌∷◌, ◌++◌, ◌≡◌, Bool, true, false, cond}
 use Rattle.message_fields.specs.declared.Fault.{Fault}
 use Rattle.message_fields.specs.declared.Place.{Place}
-use Rattle.std.specs.Prelude.{List, [], ◌∷◌, ◌++◌, ◌≡◌}
 use Rattle.facility.specs.declared.Component.{Component}
 use Rattle.message_fields.specs.declared.Facilities.{Facilities}
 use Rattle.message_fields.specs.declared.Header.{Header}
 use Rattle.message_fields.specs.declared.Reading.{Reading}
 use Rattle.elements.specs.declared.so_far.Found.{Found}
-use Rattle.elements.specs.Elements.{Element}
+use Rattle.elements.specs.declared.Way.{Way}
+use Rattle.elements.specs.Elements.{Element, Split, cut, whole, then, is_whole, counted}
 use Rattle.elements.specs.Single.{or_single}
 use Rattle.elements.specs.SoFar.{cause_seen}
 use Rattle.elements.specs.Meaning.{first_single, first_cause, first_place, components, first_three}
@@ -52,3 +52,22 @@ taken_with h f =
       message = record { header = h; single = f.single; cause = cause_seen f.cause; facility = f.facility };
       user = f.user;
     })
+
+-- the answer where f was found, and these are left
+unfoldable pub going_on : Header → Bool → Found → Split → Result Reading Fault
+going_on h pass f cut = Err Fault.Short
+going_on h pass f (whole es) = Ok (reading_from h f (counted pass es))
+
+-- the answer where f was found, and of the rest only the lengths count
+unfoldable pub locked : Header → Found → Split → Result Reading Fault
+locked h f s = cond (is_whole s) (taken_with h f) (Err Fault.Short)
+
+-- the answer by how the scan goes on
+abbrev pub way_on : Header → Way → Found → Split → Result Reading Fault
+way_on h Way.On f s = going_on h false f s
+way_on h Way.Past f s = going_on h true f s
+way_on h Way.Locked f s = locked h f s
+
+-- the scan after the element e is v with what was found g
+pub record Turns (h : Header) (w : Way) (f : Found) (e : Element) (v : Way) (g : Found) : Type 0 where
+  pub same : (s : Split) → way_on h v g s ≡ way_on h w f (then e s)

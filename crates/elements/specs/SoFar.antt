@@ -1,7 +1,6 @@
 -- What the elements of a message have said so far, and then one more.
-use Rattle.std.specs.Prelude.{Option, Some, None}
+use Rattle.std.specs.Prelude.{Option, Some, None, ℕ, List}
 use Rattle.message_fields.specs.declared.Place.{Place}
-use Rattle.std.specs.Prelude.{ℕ, List}
 use Rattle.facility.specs.declared.Component.{Component}
 use Rattle.cause.specs.Element.{cause_of}
 use Rattle.message_fields.specs.declared.Facilities.{Facilities}

@@ -1,146 +1,102 @@
 // The elements of a message: one pass over its octets, and no octet of it is copied.
 #![tactic(auto)]
 
-ghost use Rattle.std.specs.Prelude.{◌≡◌, ◌<◌, ◌≤◌, ◌+◌, length, get_or, drop};
-ghost use Rattle.elements.specs.Elements.{Ends, between, elements, is_whole};
+ghost use Rattle.std.specs.Prelude.{Ok, ◌≡◌, ◌<◌, ◌≤◌, ◌+◌, length, get_or, drop};
+ghost use Rattle.elements.specs.Elements.{between, elements};
 ghost use Rattle.elements.specs.Meaning.{taken_from};
-ghost use Rattle.elements.specs.Scan.{Adds, taken_with};
+ghost use Rattle.elements.specs.Scan.{Adds, Turns, taken_with};
 
 use crate::single::{first_single, single_in};
 use crate::so_far::{Found, cause_seen, first_cause, first_place, with_facility};
+use crate::walk::Walk;
 use facility::forms::facility_in;
-use memory::octet::wide;
 use message_fields::{Facilities, Fault, Header, Message, Reading, Single};
 
 mod single;
 pub mod so_far;
-
-fn end_of(m: &[u8], i: usize) -> Option<usize>
-    requires { i < length m.now }
-    ensures { Ends m.now i result }
-{
-    if m[i] >= 0x80 {
-        return Some(i + 1);
-    }
-    if m.len() - i < 2 {
-        return None;
-    }
-    let n = wide(m[i + 1]);
-    if m.len() - i - 2 < n {
-        return None;
-    }
-    Some(i + 2 + n)
-}
+mod walk;
 
 // What the element of m from i to e adds to what was found.
+#[tactic(auto, using(crate::proofs::Noting::adds_facility))]
 fn note(h: Header, f: Found, m: &[u8], i: usize, e: usize) -> Found
     requires { (i < e) × (e ≤ length m.now) × (get_or m.now i 0 < 128 → i + 2 ≤ e) }
     ensures { Adds h f (between m.now i e) result }
 {
-    let kind = h.kind;
-    let single = f.single;
-    let cause = f.cause;
-    let facility = f.facility;
-    let user = f.user;
-    let x = m[i];
-    match x {
+    match m[i] {
         0x08 => Found {
-            single: single,
-            cause: first_cause(cause, &m[i + 2..e]),
-            facility: facility,
-            user: user,
+            cause: first_cause(f.cause, &m[i + 2..e]),
+            ..f
         },
         0x1C => Found {
-            single: single,
-            cause: cause,
-            facility: with_facility(facility, facility_in(&m[i + 2..e])),
-            user: user,
+            facility: with_facility(f.facility, facility_in(&m[i + 2..e])),
+            ..f
         },
         0x7E => Found {
-            single: single,
-            cause: cause,
-            facility: facility,
-            user: first_place(user, i, e - i),
+            user: first_place(f.user, i, e - i),
+            ..f
         },
-        _ => Found {
-            single: first_single(single, single_in(kind, x)),
-            cause: cause,
-            facility: facility,
-            user: user,
+        x => Found {
+            single: first_single(f.single, single_in(h.kind, x)),
+            ..f
         },
     }
 }
 
 // The fields that were found, with what the header says.
-fn taken(h: Header, f: Found) -> Result<Reading, Fault>
-    ensures { result ≡ taken_with h f }
+fn taken(h: Header, f: Found) -> Reading
+    ensures { Ok result ≡ taken_with h f }
 {
-    let single = f.single;
-    let cause = f.cause;
-    let facility = f.facility;
-    let user = f.user;
-    let message = Message {
-        header: h,
-        single: single,
-        cause: cause_seen(cause),
-        facility: facility,
-    };
-    Ok(Reading {
-        message: message,
-        user: user,
-    })
+    Reading {
+        message: Message {
+            header: h,
+            single: f.single,
+            cause: cause_seen(f.cause),
+            facility: f.facility,
+        },
+        user: f.user,
+    }
 }
 
-// Whether the octets from a place on have every part that they announce.
-fn ends_whole(m: &[u8], start: usize) -> bool
-    ensures { result ≡ is_whole (elements start 0 (drop start m.now)) }
+// How the scan goes on: over the next element, past it, or past all that are left, of which only the lengths count.
+#[derive(Clone, Copy)]
+enum Way {
+    On,
+    Past,
+    Locked,
+}
+
+// What the element of m from i to e makes of the scan.
+#[tactic(auto, using(crate::proofs::Turns::on_locked, crate::proofs::Turns::on_past, crate::proofs::Turns::on_lock, crate::proofs::Turns::on_shift, crate::proofs::Turns::on_note))]
+fn turn(h: Header, way: Way, f: Found, m: &[u8], i: usize, e: usize) -> (Way, Found)
+    requires { (i < e) × (e ≤ length m.now) × (get_or m.now i 0 < 128 → i + 2 ≤ e) }
+    ensures { Turns h way f (between m.now i e) result.0 result.1 }
 {
-    let mut i = start;
-    while i < m.len() {
-        let Some(e) = end_of(m, i) else {
-            return false;
-        };
-        i = e;
+    match way {
+        Way::Locked => (Way::Locked, f),
+        Way::Past => (Way::On, f),
+        Way::On => match m[i] {
+            0x90..=0x97 => (Way::Locked, f),
+            0x98..=0x9F => (Way::Past, f),
+            _ => (Way::On, note(h, f, m, i, e)),
+        },
     }
-    true
 }
 
 // The elements from a place on. A locking shift ends the search; the lengths after it are still checked.
+#[tactic(auto, using(crate::proofs::Turns::at_first, crate::proofs::Turns::out_cut, crate::proofs::Turns::out_end))]
 pub fn scan(m: &[u8], start: usize, h: Header) -> Result<Reading, Fault>
     ensures { result ≡ taken_from h (elements start 0 (drop start m.now)) }
 {
-    let mut i = start;
-    let mut pass = false;
+    let mut way = Way::On;
     let mut f = Found {
         single: Single::Absent,
         cause: None,
         facility: Facilities::Zero,
         user: None,
     };
-    'scan: while i < m.len() {
-        let at = i;
-        let Some(e) = end_of(m, at) else {
-            return Err(Fault::Short);
-        };
-        i = e;
-        if pass {
-            pass = false;
-        } else {
-            match m[at] {
-                0x90..=0x97 => {
-                    break 'scan;
-                }
-                0x98..=0x9F => {
-                    pass = true;
-                }
-                _ => {
-                    f = note(h, f, m, at, e);
-                }
-            }
-        }
+    for element in Walk::new(m, start) {
+        let (i, e) = element?;
+        (way, f) = turn(h, way, f, m, i, e);
     }
-    if !ends_whole(m, i) {
-        return Err(Fault::Short);
-    }
-    taken(h, f)
+    Ok(taken(h, f))
 }

@@ -18,40 +18,31 @@ pub struct Found {
 pub(crate) fn first_cause(c: Option<Option<u8>>, body: &[u8]) -> Option<Option<u8>>
     ensures { result ≡ note_cause c body.now }
 {
-    match c {
-        None => Some(cause_in(body)),
-        Some(_) => c,
-    }
+    c.or(Some(cause_in(body)))
 }
 
 pub(crate) fn with_facility(f: Facilities, new: Option<Component>) -> Facilities
     ensures { result ≡ note_facility f new }
 {
-    match new {
-        None => f,
-        Some(n) => match f {
-            Facilities::Zero => Facilities::One(n),
-            Facilities::One(a) => Facilities::Two(a, n),
-            Facilities::Two(a, b) => Facilities::Three(a, b, n),
-            _ => f,
-        },
+    let Some(n) = new else {
+        return f;
+    };
+    match f {
+        Facilities::Zero => Facilities::One(n),
+        Facilities::One(a) => Facilities::Two(a, n),
+        Facilities::Two(a, b) => Facilities::Three(a, b, n),
+        Facilities::Three(..) => f,
     }
 }
 
 pub(crate) fn first_place(p: Option<Place>, i: usize, n: usize) -> Option<Place>
     ensures { result ≡ note_place p i n }
 {
-    match p {
-        None => Some(Place { at: i, size: n }),
-        Some(_) => p,
-    }
+    p.or(Some(Place { at: i, size: n }))
 }
 
 pub(crate) fn cause_seen(c: Option<Option<u8>>) -> Option<u8>
     ensures { result ≡ cause_seen c }
 {
-    match c {
-        None => None,
-        Some(v) => v,
-    }
+    c.flatten()
 }

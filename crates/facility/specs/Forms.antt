@@ -1,6 +1,5 @@
 -- The body of a Facility element, as it is read: the octets of 7.1 and Annex B, and no others.
-use Rattle.std.specs.Prelude.{Option, Some, None}
-use Rattle.std.specs.Prelude.{ℕ, suc, List, [], ◌∷◌, Bool, true, false, cond, ◌&&◌, length, get_or, ltb, eqb}
+use Rattle.std.specs.Prelude.{Option, Some, None, ℕ, suc, List, [], ◌∷◌, Bool, true, false, cond, ◌&&◌, length, get_or, ltb, eqb}
 use Rattle.rights.specs.declared.Service.{Service}
 use Rattle.facility.specs.declared.Wish.{Wish}
 use Rattle.facility.specs.declared.Refusal.{Refusal}
@@ -10,10 +9,6 @@ use Rattle.facility.specs.declared.Component.{Component}
 pub data Slot : Type 0 where
   is : ℕ → Slot
   blank : Slot
-
--- a form as a row of octets: its blanks are 0
-abbrev pub slot_of : ℕ → Slot
-slot_of x = cond (eqb x 0) blank (is x)
 
 -- the bodies of the three components: profile 91; the component's tag and length; the invoke number; then for a request
 -- operation value 1, the service and whether it is preferred, and for an error its value

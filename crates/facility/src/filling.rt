@@ -8,32 +8,24 @@ use crate::{Component, Refusal, Wish, component_fits};
 use memory::{Bar, write_octets};
 use rights::Service;
 
+// The cast of this and the next two stands in a function of its own: `service_octet`, `wish_octet` and `refusal_octet`
+// are shown case by case for it, and not within a whole form.
 fn service_octet(s: Service) -> u8
     ensures { result ≡ service_octet s }
 {
-    match s {
-        Service::One => 1,
-        Service::Two => 2,
-        Service::Three => 3,
-    }
+    s as u8
 }
 
 fn wish_octet(w: Wish) -> u8
     ensures { result ≡ wish_octet w }
 {
-    match w {
-        Wish::Preferred => 0xFF,
-        Wish::Required => 0,
-    }
+    w as u8
 }
 
 fn refusal_octet(e: Refusal) -> u8
     ensures { result ≡ refusal_octet e }
 {
-    match e {
-        Refusal::ByNetwork => 1,
-        Refusal::ByUser => 2,
-    }
+    e as u8
 }
 
 // The element of a request: the service that is asked for, and whether it is preferred or required.
@@ -48,8 +40,16 @@ fn invoke_octets(id: u8, s: Service, w: Wish) -> [u8; 19]
     ]
 }
 
-// Writes the whole element.
+// The element of a rejection: by whom.
 #[tactic(auto, unfolding(crate::specs::Filling::filled))]
+fn error_octets(id: u8, e: Refusal) -> [u8; 11]
+    ensures { result ≡ facility_octets (Component.Rejected id e) }
+{
+    [0x1C, 9, 0x91, 0xA3, 6, 2, 1, id, 2, 1, refusal_octet(e)]
+}
+
+// Writes the whole element into a buffer from a place on: `Written` names both.
+#[tactic(auto, unfolding(crate::specs::Filling::filled, memory::specs::Room::wrote_of, memory::specs::Room::left_of))]
 pub fn write_facility(buf: &mut [u8], at: usize, c: Component) -> Result<usize, Bar>
     ensures { Written (component_fits c) at (facility_octets c) buf.old buf.new result }
 {
@@ -57,18 +57,8 @@ pub fn write_facility(buf: &mut [u8], at: usize, c: Component) -> Result<usize, 
         return Err(Bar::Range);
     }
     match c {
-        Component::Invoke(id, s, w) => {
-            let element = invoke_octets(id, s, w);
-            write_octets(buf, at, &element)
-        }
-        Component::Accepted(id) => {
-            let element = [0x1C, 6, 0x91, 0xA2, 3, 2, 1, id];
-            write_octets(buf, at, &element)
-        }
-        Component::Rejected(id, e) => {
-            let error = refusal_octet(e);
-            let element = [0x1C, 9, 0x91, 0xA3, 6, 2, 1, id, 2, 1, error];
-            write_octets(buf, at, &element)
-        }
+        Component::Invoke(id, s, w) => write_octets(buf, at, &invoke_octets(id, s, w)),
+        Component::Accepted(id) => { write_octets(buf, at, &[0x1C, 6, 0x91, 0xA2, 3, 2, 1, id]) }
+        Component::Rejected(id, e) => write_octets(buf, at, &error_octets(id, e)),
     }
 }

@@ -1,4 +1,4 @@
-// What a Option<Component> element says: one component, and whether its invoke number is in range. `forms` reads its body,
+// What a Facility element says: one component, and whether its invoke number is in range. `forms` reads its body,
 // `filling` writes the element.
 #![tactic(auto)]
 
@@ -10,16 +10,18 @@ use rights::Service;
 pub mod filling;
 pub mod forms;
 
+// Each by the octet that says it. Any octet but 0 reads as preferred.
 #[derive(Clone, Copy)]
 pub enum Wish {
-    Preferred,
-    Required,
+    Preferred = 0xFF,
+    Required = 0,
 }
 
+// Each by the octet that says it.
 #[derive(Clone, Copy)]
 pub enum Refusal {
-    ByNetwork,
-    ByUser,
+    ByNetwork = 1,
+    ByUser = 2,
 }
 
 // A component, each with its invoke number: a service asked for, accepted, or rejected.
@@ -35,8 +37,8 @@ pub fn component_fits(c: Component) -> bool
     ensures { result ≡ component_fits c }
 {
     match c {
-        Component::Invoke(id, _, _) => id < 128,
-        Component::Accepted(id) => id < 128,
-        Component::Rejected(id, _) => id < 128,
+        Component::Invoke(id, ..) | Component::Accepted(id) | Component::Rejected(id, _) => {
+            id < 128
+        }
     }
 }

@@ -43,13 +43,6 @@ puts {at} {r} {s} {p} {q} {l} {l'} {l''} h a b =
       octets = b.octets ∙ rw (a.octets, a.end) (placed_then at p l h q);
     }
 
--- five pieces from the front on
-pub five_puts : {r₁ r₂ r₃ r₄ r₅ : ℕ} {a b c d e l l₁ l₂ l₃ l₄ l₅ : List ℕ} → length a + length b + length c + length d + length e ≤ length l → Put 0 a l l₁ r₁ → Put r₁ b l₁ l₂ r₂ → Put r₂ c l₂ l₃ r₃ → Put r₃ d l₃ l₄ r₄ → Put r₄ e l₄ l₅ r₅ → Put 0 ((a ++ b ++ c ++ d) ++ e) l l₅ r₅
-five_puts n p q r s t =
-    puts (simp length-append (omega arith))
-    (puts (simp length-append (omega arith)) (puts (simp length-append (omega arith)) (puts (omega arith) p q) r) s)
-    t
-
 -- no octets
 pub no_put : {at : ℕ} {l : List ℕ} → Put at [] l l at
 unfolding placed

@@ -1,6 +1,5 @@
 -- The paper's number for each case of an answer.
-use Rattle.std.specs.Prelude.{Result, Ok, Err}
-use Rattle.std.specs.Prelude.{ℕ}
+use Rattle.std.specs.Prelude.{Result, Ok, Err, ℕ}
 use Rattle.memory.specs.declared.Bar.{Bar}
 
 -- 6 writer: buffer shorter than the message; 7 writer: a field out of range

@@ -1,8 +1,7 @@
 -- One piece after another, for whoever writes several: where a piece ends and, for functions inside a crate, what it
 -- leaves.
-use Rattle.std.specs.Prelude.{Result, Ok, Err}
+use Rattle.std.specs.Prelude.{Result, Ok, Err, ℕ, ◌+◌, List, ◌≡◌, length}
 use Rattle.memory.specs.declared.Bar.{Bar}
-use Rattle.std.specs.Prelude.{ℕ, ◌+◌, List, ◌≡◌, length}
 use Rattle.memory.specs.Room.{placed}
 
 -- where a piece that was written ends

@@ -1,6 +1,5 @@
 -- What a lent buffer holds after something was written into it, or refused.
-use Rattle.std.specs.Prelude.{Result, Ok, Err}
-use Rattle.std.specs.Prelude.{ℕ, ◌+◌, ◌-◌, List, [], ◌++◌, Bool, cond, ◌≡◌, length, take, drop, leb}
+use Rattle.std.specs.Prelude.{Result, Ok, Err, ℕ, ◌+◌, ◌-◌, List, [], ◌++◌, Bool, cond, ◌≡◌, length, take, drop, leb}
 use Rattle.memory.specs.declared.Bar.{Bar}
 
 -- a buffer with a piece in it from a place on: "a written message leaves the octets after it unchanged"

@@ -2,16 +2,13 @@
 ghost use Rattle.std.specs.Prelude.{◌≡◌};
 ghost use Rattle.memory.specs.Stretch.{stretch_of};
 
-// n octets from a place on; none where they do not all lie there.
-pub fn stretch<'a>(s: &'a [u8], at: usize, n: usize) -> &'a [u8]
+// n octets from a place on; none where they do not all lie there. `streams::held` is told where its part ends
+// (`kept_of`), and this how long it is (`stretch_of`): an element's place says its length.
+pub fn stretch(s: &[u8], at: usize, n: usize) -> &[u8]
     ensures { result.now ≡ stretch_of at n s.now }
 {
-    if at > s.len() {
-        return &s[0..0];
+    match s.get(at..) {
+        Some(rest) if n <= rest.len() => &rest[..n],
+        _ => &[],
     }
-    if s.len() - at < n {
-        return &s[0..0];
-    }
-    let end = at + n;
-    &s[at..end]
 }

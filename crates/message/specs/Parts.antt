@@ -1,9 +1,8 @@
 -- The octets of a message at a place, and its user-user element.
-use Rattle.std.specs.Prelude.{Option, Some, None, Result, Ok, Err}
+use Rattle.std.specs.Prelude.{Option, Some, None, Result, Ok, Err, ℕ, List, []}
 use Rattle.message_fields.specs.declared.Reading.{Reading}
 use Rattle.message_fields.specs.declared.Fault.{Fault}
 use Rattle.message_fields.specs.declared.Place.{Place}
-use Rattle.std.specs.Prelude.{ℕ, List, []}
 use Rattle.memory.specs.Stretch.{stretch_of}
 use Rattle.message.specs.Reading.{read_of}
 

@@ -1,7 +1,6 @@
 -- What a message says.
-use Rattle.std.specs.Prelude.{Option, Some, None, Result, Err}
+use Rattle.std.specs.Prelude.{Option, Some, None, Result, Err, ℕ, ◌+◌, ◌*◌, ◌%◌, List, cond, length, get_or, drop, ltb, leb, eqb}
 use Rattle.message_fields.specs.declared.Reading.{Reading}
-use Rattle.std.specs.Prelude.{ℕ, ◌+◌, ◌*◌, ◌%◌, List, cond, length, get_or, drop, ltb, leb, eqb}
 use Rattle.message_types.specs.declared.Kind.{Kind}
 use Rattle.message_fields.specs.declared.Width.{Width}
 use Rattle.message_fields.specs.declared.Header.{Header}

@@ -5,9 +5,8 @@ ghost use Rattle.std.specs.Prelude.{◌≡◌, ◌<◌};
 ghost use Rattle.message.specs.Reading.{reference_of, headed_of, read_of};
 
 use elements::scan;
-use memory::octet::wide16;
 use message_fields::{Fault, Header, Reading, Width, width_size};
-use message_types::{Kind, kind_in};
+use message_types::kind_in;
 
 pub mod parts;
 
@@ -16,12 +15,13 @@ fn reference(w: Width, a: u8, b: u8) -> u16
     ensures { result ≡ reference_of w a b }
 {
     match w {
-        Width::One => wide16(a) % 128,
-        Width::Two => wide16(a) % 128 * 256 + wide16(b),
+        Width::One => u16::from(a % 128),
+        Width::Two => u16::from_be_bytes([a % 128, b]),
     }
 }
 
 // The rest of the header, and the elements, where the reference has this many octets.
+#[tactic(auto, unfolding(crate::specs::Reading::headed_of))]
 fn headed(m: &[u8], w: Width) -> Result<Reading, Fault>
     ensures { result ≡ headed_of w m.now }
 {
@@ -29,18 +29,14 @@ fn headed(m: &[u8], w: Width) -> Result<Reading, Fault>
     if m.len() < n + 3 {
         return Err(Fault::Short);
     }
-    match kind_in(m[n + 2]) {
-        None => Err(Fault::Kind),
-        Some(k) => {
-            let h = Header {
-                width: w,
-                flag: m[2] >= 0x80,
-                reference: reference(w, m[2], m[3]),
-                kind: k,
-            };
-            scan(m, n + 3, h)
-        }
-    }
+    let kind = kind_in(m[n + 2]).ok_or(Fault::Kind)?;
+    let header = Header {
+        width: w,
+        flag: m[2] >= 0x80,
+        reference: reference(w, m[2], m[3]),
+        kind,
+    };
+    scan(m, n + 3, header)
 }
 
 #[tactic(auto, unfolding(crate::specs::Reading::read_of))]
@@ -50,19 +46,11 @@ pub fn read_message(m: &[u8]) -> Result<Reading, Fault>
     if m.len() > 260 {
         return Err(Fault::TooLong);
     }
-    if m.len() < 1 {
-        return Err(Fault::Short);
-    }
-    if m[0] != 8 {
-        return Err(Fault::Foreign);
-    }
-    if m.len() < 2 {
-        return Err(Fault::Short);
-    }
-    let n = m[1];
-    match n {
-        1 => headed(m, Width::One),
-        2 => headed(m, Width::Two),
-        _ => Err(Fault::Reference),
+    match m {
+        [] | [8] => Err(Fault::Short),
+        [8, 1, ..] => headed(m, Width::One),
+        [8, 2, ..] => headed(m, Width::Two),
+        [8, ..] => Err(Fault::Reference),
+        _ => Err(Fault::Foreign),
     }
 }

@@ -7,25 +7,22 @@ use memory::stretch::stretch;
 use message_fields::Place;
 
 // The octets of a message at a place; none where the place does not lie in it.
-pub fn part<'a>(m: &'a [u8], place: Option<Place>) -> &'a [u8]
+pub fn part(m: &[u8], place: Option<Place>) -> &[u8]
     ensures { result.now ≡ part_of m.now place }
 {
     match place {
-        None => &m[0..0],
+        None => &[],
         Some(p) => stretch(m, p.at, p.size),
     }
 }
 
 // The whole user-user element, as the very part of the message; empty where there is none or the message is refused.
 #[tactic(auto, unfolding(crate::specs::Parts::user_user_of))]
-pub fn user_user<'a>(m: &'a [u8]) -> &'a [u8]
+pub fn user_user(m: &[u8]) -> &[u8]
     ensures { result.now ≡ user_user_of m.now }
 {
     match read_message(m) {
-        Err(_) => &m[0..0],
-        Ok(r) => {
-            let user = r.user;
-            part(m, user)
-        }
+        Ok(reading) => part(m, reading.user),
+        Err(_) => &[],
     }
 }

@@ -1,7 +1,6 @@
 -- The paper's number for each case of an answer. The writer's numbers are in `memory`.
-use Rattle.std.specs.Prelude.{Result, Ok, Err}
+use Rattle.std.specs.Prelude.{Result, Ok, Err, ℕ}
 use Rattle.message_fields.specs.declared.Reading.{Reading}
-use Rattle.std.specs.Prelude.{ℕ}
 use Rattle.message_fields.specs.declared.Fault.{Fault}
 
 -- 1 message ends before a part that it announces; 2 longer than 260 octets; 3 first octet is not 8; 4 call reference

@@ -11,20 +11,18 @@ use message_types::Kind;
 // How many octets the call reference has.
 #[derive(Clone, Copy)]
 pub enum Width {
-    One,
-    Two,
+    One = 1,
+    Two = 2,
 }
 
 pub fn width_size(w: Width) -> usize
     ensures { (result ≡ width_of w) × (1 ≤ result) × (result ≤ 2) }
 {
-    match w {
-        Width::One => 1,
-        Width::Two => 2,
-    }
+    w as usize
 }
 
-// The elements of a single octet that belong to us.
+// The elements of a single octet that belong to us. Absent is a case beside the three and no Option: `or_single`,
+// `single_fits`, `single_octets` and `single_column` say case by case what each of the four means.
 #[derive(Clone, Copy)]
 pub enum Single {
     Absent,
@@ -33,7 +31,8 @@ pub enum Single {
     NotReady,
 }
 
-// What the Facility elements say: at most three components, in order.
+// What the Facility elements say: at most three components, in order. Four cases, since a message is copied, which a
+// list with room for three (`ArrayVec`) is not, and an array of three options could have gaps.
 #[derive(Clone, Copy)]
 pub enum Facilities {
     Zero,
@@ -74,12 +73,12 @@ pub struct Reading {
 }
 
 // Why a message is refused: it ends too early, is too long, begins with another protocol's octet, or has a reference
-// length or a type that is none of ours.
+// length or a type that is none of ours. Each by its number.
 #[derive(Clone, Copy)]
 pub enum Fault {
-    Short,
-    TooLong,
-    Foreign,
-    Reference,
-    Kind,
+    Short = 1,
+    TooLong = 2,
+    Foreign = 3,
+    Reference = 4,
+    Kind = 5,
 }

@@ -31,13 +31,13 @@ use Rattle.elements.specs.SoFar.{one_more, cause_seen}
 use Rattle.elements.specs.Meaning.{taken_from}
 use Rattle.message.specs.Reading.{read_of}
 use Rattle.message.specs.Parts.{part_of, user_user_of}
-use Rattle.elements.specs.Scan.{Adds, taken_with}
+use Rattle.elements.specs.Scan.{Adds, taken_with, going_on}
 use Rattle.writer.specs.Fitting.{reference_fits, plain_fits, more_fits, class_fits, single_fits, causes_fit, facilities_fit, message_fits}
 use Rattle.writer.specs.Writing.{top_of, header_octets, single_octets, causes_octets, facilities_octets, front_octets, message_octets}
 use Rattle.octet_promises.specs.Promises.{place_for}
 use Rattle.elements.proofs.Splitting.{alone, lengthy}
 use Rattle.elements.proofs.Noting.{adds_cause, adds_facility, adds_place, adds_single}
-use Rattle.elements.proofs.Turns.{nothing, going_on, at_first, at_last, notes}
+use Rattle.elements.proofs.Turns.{nothing, at_first, at_last, notes}
 use Rattle.message.proofs.Heading.{headed_known}
 use Rattle.logic.proofs.Tests.{both}
 use Rattle.writer.proofs.fitting.Ranges.{fits}

@@ -1,9 +1,8 @@
 -- Readers that differ from ours in the shifts alone, and that what is demanded of reading shuts out;
 -- `proofs/Others.antt` has a message for each.
-use Rattle.std.specs.Prelude.{Result, Ok, Err}
+use Rattle.std.specs.Prelude.{Result, Ok, Err, ℕ, List, [], ◌∷◌, Bool, true, false, cond, ◌&&◌, ◌≡◌, drop, leb}
 use Rattle.message_fields.specs.declared.Reading.{Reading}
 use Rattle.message_fields.specs.declared.Fault.{Fault}
-use Rattle.std.specs.Prelude.{ℕ, List, [], ◌∷◌, Bool, true, false, cond, ◌&&◌, ◌≡◌, drop, leb}
 use Rattle.elements.specs.Elements.{Element, Split, cut, whole, elements}
 use Rattle.elements.specs.Meaning.{reading_of}
 use Rattle.message.specs.Reading.{read_of}

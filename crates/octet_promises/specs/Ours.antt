@@ -1,8 +1,7 @@
 -- Which elements of a message are ours, and what is given back of them: over the places of its octets, and without the
 -- functions that the reader's definition is made of. What the body of one Cause or Facility element says is theirs.
-use Rattle.std.specs.Prelude.{Option, Some, None}
+use Rattle.std.specs.Prelude.{Option, Some, None, ℕ, suc, ◌+◌, ◌<◌, ◌≤◌, List, ◌⊎◌, Bool, true, false, ◌≡◌, length, get_or, take, drop}
 use Rattle.message_fields.specs.declared.Place.{Place}
-use Rattle.std.specs.Prelude.{ℕ, suc, ◌+◌, ◌<◌, ◌≤◌, List, ◌⊎◌, Bool, true, false, ◌≡◌, length, get_or, take, drop}
 use Rattle.cause.specs.Element.{cause_of}
 use Rattle.facility.specs.declared.Component.{Component}
 use Rattle.facility.specs.Forms.{facility_of}

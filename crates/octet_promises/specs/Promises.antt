@@ -1,11 +1,10 @@
 -- What is promised of reading and writing, over the definitions. Each statement is a type; `proofs/Promises.antt` has
 -- its proof.
-use Rattle.std.specs.Prelude.{Option, Some, None, Result, Ok}
+use Rattle.std.specs.Prelude.{Option, Some, None, Result, Ok, ℕ, ◌+◌, ◌<◌, ◌≤◌, List, [], ◌∷◌, ◌++◌, ◌⊎◌, true, ◌≡◌, length, get_or, take, drop}
 use Rattle.memory.specs.declared.Bar.{Bar}
 use Rattle.message_fields.specs.declared.Reading.{Reading}
 use Rattle.message_fields.specs.declared.Fault.{Fault}
 use Rattle.message_fields.specs.declared.Place.{Place}
-use Rattle.std.specs.Prelude.{ℕ, ◌+◌, ◌<◌, ◌≤◌, List, [], ◌∷◌, ◌++◌, ◌⊎◌, true, ◌≡◌, length, get_or, take, drop}
 use Rattle.logic.specs.First.{Rows, end, row, Exactly}
 use Rattle.memory.specs.Room.{wrote_of, left_of}
 use Rattle.facility.specs.Facility.{invoke_number}

@@ -1,34 +1,25 @@
--- The end of a text, sought from the front.
-use Prim.Native.Nat.{ℕ, suc, ◌+◌, ◌<◌, ◌≤◌}
+-- The end of a text is its first zero, or where it ends without one.
+use Prim.Native.Nat.{ℕ, suc, ◌+◌, ◌≤◌}
 use mathlib.Core.List.{List}
-use mathlib.Core.Path.{◌≡◌}
+use mathlib.Core.Bool.{Bool, true, false, cond}
+use mathlib.Core.Path.{◌≡◌, refl, sym, ◌∙◌}
 use native.Mathlib.Omega.{arith}
-use borrow.Author.Tests.{eq-eqb, ne_eqb}
-use lib.ListN.{length, get_or, drop, drop_of_length-le}
-use lib.Seq.{drop-cons}
+use borrow.Author.Tests.{ltb-false}
+use lib.Dec.{ltb, eqb}
+use lib.ListN.{length}
+use Rattle.std.specs.Prelude.{Some, None, unwrap_or, position}
+use Rattle.std.specs.List.{position_or_len}
+use Rattle.std.proofs.lemmas.List.Sums.{prefix_len-le-length}
+use Rattle.std.proofs.lemmas.List.Recursion.{is_position_or_len}
 use Rattle.text.specs.Page.{text_end}
 
--- no zero stands before a place
-pub record Past (l : List ℕ) (i : ℕ) : Type 0 where
-  pub so_far : text_end l ≡ i + text_end (drop i l)
+pub first_zero : (l : List ℕ) → text_end l ≡ position_or_len (λ (x : ℕ). eqb x 0) l
+unfolding text_end
+first_zero l = is_position_or_len text_end (λ (x : ℕ). eqb x 0) refl (λ x xs. let e : suc (text_end xs) ≡ 1 + text_end xs = omega arith in rw e refl) l
 
-module _ (l : List ℕ) where
-  pub from_the_front : Past l 0
-  from_the_front = record { so_far = omega arith }
+where_found : (t : Bool) (n k : ℕ) → ltb n k ≡ t → n ≤ k → unwrap_or (cond t (Some n) None) k ≡ n
+where_found true n k e h = refl
+where_found false n k e h = let b = ltb-false n k e in omega arith
 
-  module _ (i : ℕ) (h : i < length l) (p : Past l i) where
-    pub one_on : (get_or l i 0 ≡ 0 → ⊥) → Past l (i + 1)
-    unfolding text_end
-    one_on n =
-        let e = drop-cons l i 0 h in
-        let f = rw (e, ne_eqb (get_or l i 0) 0 n) at p.so_far in
-        let z : i + 1 ≡ suc i = omega arith in
-        record { so_far = rw z (omega arith) }
-
-    pub found : get_or l i 0 ≡ 0 → i ≡ text_end l
-    unfolding text_end
-    found z = let f = rw (drop-cons l i 0 h, eq-eqb (get_or l i 0) 0 z) at p.so_far in omega arith
-
-  pub not_found : (i : ℕ) → i ≤ length l → length l ≤ i → Past l i → i ≡ text_end l
-  unfolding text_end
-  not_found i h k p = let f = rw (drop_of_length-le l {i = i} k) at p.so_far in omega arith
+pub or_its_end : (l : List ℕ) → unwrap_or (position (λ (x : ℕ). eqb x 0) l) (length l) ≡ text_end l
+or_its_end l = where_found _ (position_or_len (λ (x : ℕ). eqb x 0) l) (length l) refl (prefix_len-le-length _ l) ∙ sym (first_zero l)

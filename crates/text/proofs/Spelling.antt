@@ -1,7 +1,7 @@
 -- A text read octet by octet: what has been read, and what is still to be, make the whole.
 use Prim.Native.Nat.{ℕ, suc, ◌+◌, ◌-◌, ◌<◌, ◌≤◌}
 use mathlib.Core.List.{List, [], ◌∷◌, ◌++◌, append_assoc, append-nil}
-use mathlib.Core.Bool.{Bool, true, false, ◌&&◌}
+use mathlib.Core.Bool.{Bool, true, false}
 use mathlib.Core.Path.{◌≡◌, refl, sym, ap, ◌∙◌}
 use native.Mathlib.Omega.{arith}
 use native.Mathlib.Nat.{zero-add, add_assoc}
@@ -10,17 +10,12 @@ use borrow.Author.Tests.{le-leb, lt-leb, leb-true, leb-false}
 use lib.Dec.{leb}
 use lib.ListN.{length, get_or, drop, set, length-append, drop_of_length-le}
 use lib.Seq.{drop-cons}
-use Rattle.logic.proofs.Tests.{both}
 use Rattle.memory.specs.Putting.{Put}
 use Rattle.memory.proofs.Pieces.{no_put, puts, put_length}
 use Rattle.text.specs.declared.octets.Reading.{Reading}
 use Rattle.text.specs.declared.octets.Step.{Step}
 use Rattle.text.specs.Octets.{step_of, unread_of, Spelling, after, stopped, read_of, Spells}
 use Rattle.text.proofs.Pieced.{octet}
-
--- a number between two others is not below the first
-pub not_below : (a x b : ℕ) {r : Bool} → r ≡ true → r ≡ (leb a x && leb x b) → a ≤ x
-not_below a x b h e = leb-true a x (both (leb a x) (leb x b) (sym e ∙ h)).0
 
 -- nothing before what is read
 after_nothing : (r : Spelling) → after 0 [] r ≡ r
@@ -95,7 +90,7 @@ module _ {text : List ℕ} {s : Reading} {l : List ℕ} where
         record {
           some = omega arith;
           done = g.done ++ (y ∷ []);
-          put = puts (omega (arith, g.fits)) g.put (octet {x = y} (omega arith)).put;
+          put = puts (omega (arith, g.fits)) g.put (octet {x = y} (omega arith));
           fits = simp length-append (omega arith);
           whole =
               g.whole
@@ -110,9 +105,11 @@ module _ {text : List ℕ} {s : Reading} {l : List ℕ} where
       pub ends : Spells text s l buf (record { used = i; wrote = n; reading = at; fault = f })
       ends = record { answer = rw (all) (let q = g.put.end in ap (λ (m : ℕ). record { used = i; wrote = m; reading = at; fault = f }) (omega arith)); buffer = rw all g.put.octets }
 
-    pub ends_whole : length text ≤ i → Spells text s l buf (record { used = i; wrote = n; reading = at; fault = false })
+    pub ends_whole : length text ≤ i → Spells text s l buf (record { used = length text; wrote = n; reading = at; fault = false })
     unfolding read_of
-    ends_whole h = ends (rw (drop_of_length-le text {i = i} h) refl)
+    ends_whole h =
+        let e : i ≡ length text = omega (arith, g.some) in
+        rw e at (ends {f = false} (rw (drop_of_length-le text {i = i} h) refl))
 
     pub ends_full : {y : ℕ} → i < length text → length buf ≤ n → Step.Whole y ≡ step_of at (get_or text i 0) → Spells text s l buf (record { used = i; wrote = n; reading = at; fault = false })
     ends_full h k e = ends (rw (next h) (has_no_room (get_or text i 0) (drop (suc i) text) (length l - n) at e (omega (arith, as_long))))

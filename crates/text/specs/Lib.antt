@@ -1,6 +1,7 @@
 pub mod Decimal
 pub mod Hex
-pub mod Pieces
 pub mod Columns
 pub mod Octets
 pub mod Page
+pub mod Line
+pub mod Service

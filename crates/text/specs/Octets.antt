@@ -1,7 +1,6 @@
 -- A text of hexadecimal digits, and the octets that it spells: two digits an octet, the high one first, with white
 -- space and comments anywhere between them.
-use Rattle.std.specs.Prelude.{Option, Some, None}
-use Rattle.std.specs.Prelude.{ℕ, ◌+◌, ◌-◌, ◌*◌, ◌%◌, List, [], ◌∷◌, ◌++◌, Bool, true, false, cond, not, ◌&&◌, ◌||◌, ◌≡◌, length, leb, eqb}
+use Rattle.std.specs.Prelude.{Option, Some, None, ℕ, ◌+◌, ◌-◌, ◌*◌, ◌%◌, List, [], ◌∷◌, ◌++◌, Bool, true, false, cond, not, ◌&&◌, ◌||◌, ◌≡◌, length, leb, eqb}
 use Rattle.memory.specs.Room.{placed}
 use Rattle.text.specs.declared.octets.Sign.{Sign}
 use Rattle.text.specs.declared.octets.Reading.{Reading}

@@ -1,5 +1,5 @@
 // Hexadecimal digits read as octets, piece by piece, with white space and comments between them.
-ghost use Rattle.std.specs.Prelude.{◌≡◌, ◌&&◌, ◌||◌, leb, eqb};
+ghost use Rattle.std.specs.Prelude.{◌≡◌};
 ghost use Rattle.text.specs.Octets.{joined, step_of, unread_of, alone_of, Spells};
 ghost use Rattle.text.specs.Octets.{sign_of as sign_meant};
 
@@ -19,7 +19,8 @@ pub struct Reading {
     pub comment: bool,
 }
 
-// What one octet of the text makes of that: nothing is whole yet, an octet is, or it has no place there.
+// What one octet of the text makes of that: nothing is whole yet, an octet is, or it has no place there. Three cases
+// and no Result: the definitions `step_of` and `joined` name each of them, and `read_of` goes on from each its own way.
 #[derive(Clone, Copy)]
 enum Step {
     On(Reading),
@@ -28,7 +29,8 @@ enum Step {
 }
 
 // used: how many octets of the text were read; wrote: how many octets they make; reading: where reading stands then;
-// fault: whether the next octet of the text has no place there.
+// fault: whether the next octet of the text has no place there. It is a flag and no `Err`, since what was read before a
+// fault is written and counted all the same.
 #[derive(Clone, Copy)]
 pub struct Spelt {
     pub used: usize,
@@ -37,51 +39,18 @@ pub struct Spelt {
     pub fault: bool,
 }
 
-fn within(least: u8, x: u8, most: u8) -> bool
-    ensures { result ≡ (leb least x && leb x most) }
-{
-    if least <= x {
-        return x <= most;
-    }
-    false
-}
-
-// Space, tab, carriage return and line feed.
-fn blank(x: u8) -> bool
-    ensures { result ≡ (eqb x 32 || eqb x 9 || eqb x 13 || eqb x 10) }
-{
-    if x == 32 {
-        return true;
-    }
-    if x == 9 {
-        return true;
-    }
-    if x == 13 {
-        return true;
-    }
-    x == 10
-}
-
 #[tactic(auto, unfolding(crate::specs::Octets::sign_of))]
 fn sign_of(x: u8) -> Sign
     ensures { result ≡ sign_meant x }
 {
-    if within(48, x, 57) {
-        return Sign::Digit(x - 48);
+    match x {
+        b'0'..=b'9' => Sign::Digit(x - b'0'),
+        b'A'..=b'F' => Sign::Digit(x - b'A' + 10),
+        b'a'..=b'f' => Sign::Digit(x - b'a' + 10),
+        b' ' | b'\t' | b'\r' | b'\n' => Sign::Blank,
+        b'#' => Sign::Hash,
+        _ => Sign::Other,
     }
-    if within(65, x, 70) {
-        return Sign::Digit(x - 55);
-    }
-    if within(97, x, 102) {
-        return Sign::Digit(x - 87);
-    }
-    if blank(x) {
-        return Sign::Blank;
-    }
-    if x == 35 {
-        return Sign::Hash;
-    }
-    Sign::Other
 }
 
 fn with_digit(p: Option<u8>, d: u8) -> Step
@@ -101,23 +70,16 @@ fn with_digit(p: Option<u8>, d: u8) -> Step
 fn stepped(s: Reading, x: u8) -> Step
     ensures { result ≡ step_of s x }
 {
-    let pending = s.pending;
     if s.comment {
         return Step::On(Reading {
-            pending: pending,
-            comment: x != 10,
+            comment: x != b'\n',
+            ..s
         });
     }
     match sign_of(x) {
-        Sign::Digit(d) => with_digit(pending, d),
-        Sign::Blank => Step::On(Reading {
-            pending: pending,
-            comment: false,
-        }),
-        Sign::Hash => Step::On(Reading {
-            pending: pending,
-            comment: true,
-        }),
+        Sign::Digit(d) => with_digit(s.pending, d),
+        Sign::Blank => Step::On(s),
+        Sign::Hash => Step::On(Reading { comment: true, ..s }),
         Sign::Other => Step::Fault,
     }
 }
@@ -136,56 +98,48 @@ pub fn unread() -> Reading
 pub fn alone(s: Reading) -> bool
     ensures { result ≡ alone_of s.pending }
 {
-    let pending = s.pending;
-    match pending {
-        None => false,
-        Some(_) => true,
-    }
+    s.pending.is_some()
 }
 
 // Reads a piece of text from where reading stands, and puts its octets at the buffer's front. It ends early at a fault,
-// and before an octet for which the buffer has no room.
+// and before an octet for which the buffer has no room. wrote is counted by hand: it is the answer, as `Spells` says,
+// and not every octet of the text makes one.
+#[tactic(auto, using(crate::proofs::Spelling::begins, crate::proofs::Spelling::takes, crate::proofs::Spelling::spells))]
 pub fn read_octets(text: &[u8], s: Reading, out: &mut [u8]) -> Spelt
     ensures { Spells text.now s out.old out.new result }
 {
-    let mut i: usize = 0;
-    let mut n: usize = 0;
-    let mut at = s;
-    while i < text.len() {
-        let t = stepped(at, text[i]);
-        match t {
-            Step::On(next) => {
-                at = next;
-                i += 1;
-            }
-            Step::Whole(x) => {
-                if n >= out.len() {
+    let mut wrote: usize = 0;
+    let mut reading = s;
+    for (used, x) in text.iter().enumerate() {
+        match stepped(reading, *x) {
+            Step::On(next) => reading = next,
+            Step::Whole(y) => {
+                if wrote >= out.len() {
                     return Spelt {
-                        used: i,
-                        wrote: n,
-                        reading: at,
+                        used,
+                        wrote,
+                        reading,
                         fault: false,
                     };
                 }
-                out[n] = x;
-                n += 1;
-                at = unread();
-                i += 1;
+                out[wrote] = y;
+                wrote += 1;
+                reading = unread();
             }
             Step::Fault => {
                 return Spelt {
-                    used: i,
-                    wrote: n,
-                    reading: at,
+                    used,
+                    wrote,
+                    reading,
                     fault: true,
                 };
             }
         }
     }
     Spelt {
-        used: i,
-        wrote: n,
-        reading: at,
+        used: text.len(),
+        wrote,
+        reading,
         fault: false,
     }
 }

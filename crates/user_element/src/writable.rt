@@ -2,15 +2,12 @@
 ghost use Rattle.std.specs.Prelude.{◌≡◌};
 ghost use Rattle.user_element.specs.Writable.{element_fits_of};
 
-use memory::octet::wide;
+use crate::framed;
 
 // Absent, or an element that the paper lets go out.
+#[tactic(auto, unfolding(crate::specs::Writable::element_fits_of))]
 pub fn element_fits(u: &[u8]) -> bool
     ensures { result ≡ element_fits_of u.now }
 {
-    let n = u.len();
-    if n < 2 {
-        return n == 0;
-    }
-    (n <= 131) & (u[0] == 0x7E) & (wide(u[1]) == n - 2)
+    u.is_empty() || u.len() <= 131 && framed(u)
 }

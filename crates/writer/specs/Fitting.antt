@@ -1,6 +1,5 @@
 -- The fields of a message that are in range.
-use Rattle.std.specs.Prelude.{Option, Some, None}
-use Rattle.std.specs.Prelude.{ℕ, List, Bool, true, false, ◌&&◌, ltb}
+use Rattle.std.specs.Prelude.{Option, Some, None, ℕ, List, Bool, true, false, ◌&&◌, ltb}
 use Rattle.user_element.specs.Writable.{element_fits_of}
 use Rattle.cause.specs.Element.{cause_fits}
 use Rattle.facility.specs.Facility.{component_fits}

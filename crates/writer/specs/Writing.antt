@@ -1,6 +1,5 @@
 -- The octets of a message that is written.
-use Rattle.std.specs.Prelude.{Option, Some, None}
-use Rattle.std.specs.Prelude.{ℕ, ◌+◌, ◌/◌, ◌%◌, List, [], ◌∷◌, ◌++◌, Bool, true, false}
+use Rattle.std.specs.Prelude.{Option, Some, None, ℕ, ◌+◌, ◌/◌, ◌%◌, List, [], ◌∷◌, ◌++◌, Bool, true, false}
 use Rattle.cause.specs.Element.{cause_octets}
 use Rattle.facility.specs.Filling.{facility_octets}
 use Rattle.message_fields.specs.declared.Width.{Width}

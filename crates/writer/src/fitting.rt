@@ -1,7 +1,8 @@
 // Whether every field of a message is in range.
 ghost use Rattle.std.specs.Prelude.{◌≡◌};
-ghost use Rattle.writer.specs.Fitting.{reference_fits, plain_fits, more_fits, level_fits, single_fits, causes_fit, facilities_fit, message_fits};
+ghost use Rattle.writer.specs.Fitting.{reference_fits, single_fits, causes_fit, facilities_fit, message_fits};
 
+use cause::GREATEST_CAUSE;
 use facility::component_fits;
 use message_fields::{Facilities, Message, Single, Width};
 use message_types::{Class, Kind, class_of};
@@ -17,57 +18,21 @@ fn reference_fits(w: Width, r: u16) -> bool
     }
 }
 
-fn plain_fits(s: Single) -> bool
-    ensures { result ≡ plain_fits s }
-{
-    match s {
-        Single::Absent => true,
-        Single::MoreData => false,
-        Single::Ready => false,
-        Single::NotReady => false,
-    }
-}
-
-fn more_fits(s: Single) -> bool
-    ensures { result ≡ more_fits s }
-{
-    match s {
-        Single::Absent => true,
-        Single::MoreData => true,
-        Single::Ready => false,
-        Single::NotReady => false,
-    }
-}
-
-fn level_fits(s: Single) -> bool
-    ensures { result ≡ level_fits s }
-{
-    match s {
-        Single::Absent => false,
-        Single::MoreData => false,
-        Single::Ready => true,
-        Single::NotReady => true,
-    }
-}
-
 // The single octet that a kind of message may, or must, have.
 fn single_fits(k: Kind, s: Single) -> bool
     ensures { result ≡ single_fits k s }
 {
     match class_of(k) {
-        Class::Plain => plain_fits(s),
-        Class::Information => more_fits(s),
-        Class::Congestion => level_fits(s),
+        Class::Plain => matches!(s, Single::Absent),
+        Class::Information => matches!(s, Single::Absent | Single::MoreData),
+        Class::Congestion => matches!(s, Single::Ready | Single::NotReady),
     }
 }
 
 fn causes_fit(c: Option<u8>) -> bool
     ensures { result ≡ causes_fit c }
 {
-    match c {
-        None => true,
-        Some(v) => v < 128,
-    }
+    c.is_none_or(|v| v <= GREATEST_CAUSE)
 }
 
 fn facilities_fit(f: Facilities) -> bool
@@ -76,8 +41,8 @@ fn facilities_fit(f: Facilities) -> bool
     match f {
         Facilities::Zero => true,
         Facilities::One(a) => component_fits(a),
-        Facilities::Two(a, b) => component_fits(a) & component_fits(b),
-        Facilities::Three(a, b, c) => component_fits(a) & component_fits(b) & component_fits(c),
+        Facilities::Two(a, b) => component_fits(a) && component_fits(b),
+        Facilities::Three(a, b, c) => component_fits(a) && component_fits(b) && component_fits(c),
     }
 }
 
@@ -86,15 +51,9 @@ fn facilities_fit(f: Facilities) -> bool
 pub(crate) fn message_fits(w: Message, user: &[u8]) -> bool
     ensures { result ≡ message_fits w user.now }
 {
-    let h = w.header;
-    let width = h.width;
-    let kind = h.kind;
-    let single = w.single;
-    let cause = w.cause;
-    let facility = w.facility;
-    reference_fits(width, h.reference)
-        & single_fits(kind, single)
-        & causes_fit(cause)
-        & facilities_fit(facility)
-        & element_fits(user)
+    reference_fits(w.header.width, w.header.reference)
+        && single_fits(w.header.kind, w.single)
+        && causes_fit(w.cause)
+        && facilities_fit(w.facility)
+        && element_fits(user)
 }

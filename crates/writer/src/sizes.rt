@@ -18,19 +18,14 @@ fn single_size(s: Single) -> usize
 {
     match s {
         Single::Absent => 0,
-        Single::MoreData => 1,
-        Single::Ready => 1,
-        Single::NotReady => 1,
+        Single::MoreData | Single::Ready | Single::NotReady => 1,
     }
 }
 
 fn cause_size(c: Option<u8>) -> usize
     ensures { result ≡ length (causes_octets c) }
 {
-    match c {
-        None => 0,
-        Some(_) => 4,
-    }
+    if c.is_some() { 4 } else { 0 }
 }
 
 #[tactic(auto, unfolding(facility::specs::Filling::filled))]
@@ -38,9 +33,9 @@ fn component_size(c: Component) -> usize
     ensures { (result ≡ length (facility_octets c)) × (result ≤ 19) }
 {
     match c {
-        Component::Invoke(_, _, _) => 19,
-        Component::Accepted(_) => 8,
-        Component::Rejected(_, _) => 11,
+        Component::Invoke(..) => 19,
+        Component::Accepted(..) => 8,
+        Component::Rejected(..) => 11,
     }
 }
 
@@ -56,13 +51,12 @@ fn facilities_size(f: Facilities) -> usize
 }
 
 // How many octets the message has before its user-user element.
+#[tactic(auto, using(crate::proofs::sizes::Sizes::small, crate::proofs::sizes::Sizes::front_is))]
 pub(crate) fn front_size(w: Message) -> usize
     ensures { (result ≡ length (front_octets w)) × (result ≤ 67) }
 {
-    let h = w.header;
-    let width = h.width;
-    let single = w.single;
-    let cause = w.cause;
-    let facility = w.facility;
-    header_size(width) + single_size(single) + cause_size(cause) + facilities_size(facility)
+    header_size(w.header.width)
+        + single_size(w.single)
+        + cause_size(w.cause)
+        + facilities_size(w.facility)
 }

@@ -1,13 +1,10 @@
 use Rattle.std.proofs.Common.{arith}
 use Rattle.elements.proofs.Splitting.{counts}
-use Rattle.elements.proofs.Noting.{adds_cause, adds_facility, adds_place, adds_single}
+use Rattle.elements.proofs.Noting.{adds_cause, adds_place, adds_single}
 use Rattle.elements.proofs.note.Goals as goal
 
 pub returns-in-8 : goal.returns-in-8
 returns-in-8 c = rw c.first_cause.ensures (adds_cause _ _ _ c.in-8.is)
-
-pub returns-in-28 : goal.returns-in-28
-returns-in-28 c = rw (c.with_facility.ensures, c.facility_in.ensures) (adds_facility _ _ _ c.in-28.is)
 
 pub returns-in-126 : goal.returns-in-126
 returns-in-126 c =

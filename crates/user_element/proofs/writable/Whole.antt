@@ -1,13 +1,13 @@
 -- An element that can be written is absent or whole.
-use Prim.Native.Nat.{ℕ, ◌-◌, ◌<◌, ◌≤◌}
+use Prim.Native.Nat.{ℕ, ◌≤◌}
 use mathlib.Core.List.{List}
-use mathlib.Core.Bool.{Bool, true, false, cond, not, ◌&&◌}
+use mathlib.Core.Bool.{true}
 use mathlib.Core.Logic.{◌⊎◌, inl, inr, ⊎_elim}
-use mathlib.Core.Path.{◌≡◌, refl}
+use mathlib.Core.Path.{◌≡◌}
 use native.Mathlib.Omega.{arith}
-use borrow.Author.Tests.{ltb-false, eqb-true, leb-true, leb-false, lt-ltb, le-ltb, eq-eqb, ne_eqb}
+use borrow.Author.Tests.{ltb-false, eqb-true, le-ltb, eq-eqb, ne_eqb}
 use lib.ListN.{length, get_or}
-use lib.Dec.{ltb, leb, eqb}
+use lib.Dec.{ltb, eqb}
 use Rattle.logic.proofs.Tests.{if_so, if_not, if_yes}
 use Rattle.user_element.specs.Writable.{UserElement, element_fits_of}
 
@@ -36,25 +36,3 @@ element_fits u (inr e) =
 
 pub element_small : (u : List ℕ) → element_fits_of u ≡ true → length u ≤ 131
 element_small u h = ⊎_elim (λ z. omega arith) (λ w. w.most) (element_in_lem u h)
-
--- the tests in the code's order
-within : (n : ℕ) (t : Bool) → leb n 131 ≡ t → ltb 131 n ≡ not t
-within n true h = le-ltb 131 n (leb-true n 131 h)
-within n false h = lt-ltb 131 n (leb-false n 131 h)
-
-in_order : (p q r : Bool) → (p && q) && r ≡ cond (not p) false (cond q r false)
-in_order true true r = refl
-in_order true false r = refl
-in_order false q r = refl
-
-only_empty : (z : Bool) → z ≡ cond z true false
-only_empty true = refl
-only_empty false = refl
-
-pub short : (u : List ℕ) → length u < 2 → eqb (length u) 0 ≡ element_fits_of u
-unfolding element_fits_of
-short u h = simp (lt-ltb (length u) 2 h) (only_empty (eqb (length u) 0))
-
-pub long : (u : List ℕ) (n : ℕ) → n ≡ get_or u 1 0 → 2 ≤ length u → (leb (length u) 131 && eqb (get_or u 0 0) 0x7E) && eqb n (length u - 2) ≡ element_fits_of u
-unfolding element_fits_of
-long u n e h = simp (e, ne_eqb (length u) 0 (λ z. omega arith), le-ltb (length u) 2 h, within (length u) _ refl) (in_order (leb (length u) 131) (eqb (get_or u 0 0) 0x7E) (eqb (get_or u 1 0) (length u - 2)))

@@ -1,21 +1,11 @@
-use Rattle.text.proofs.Spelling.{begins, takes, spells, ends_whole, ends_full, ends_wrong}
+use Rattle.text.proofs.Spelling.{ends_whole, ends_full, ends_wrong}
 use Rattle.text.proofs.octets.read_octets.Goals as goal
 
-pub loop-i-init : goal.loop-i-init
-loop-i-init c = begins
-
-pub loop-i-preserved-in-On : goal.loop-i-preserved-in-On
-loop-i-preserved-in-On c = takes c.loop-i.invariant c.loop-i-test.true c.in-On.ensures
-
-pub returns-then-n-out : goal.returns-then-n-out
-returns-then-n-out c = ends_full c.loop-i.invariant c.loop-i-test.true c.if-n-out.true c.in-Whole.ensures
-
-pub loop-i-preserved : goal.loop-i-preserved
-loop-i-preserved c =
-    rw c.unread-at.ensures (spells c.loop-i.invariant c.loop-i-test.true c.if-n-out.false c.in-Whole.ensures)
+pub returns-then-wrote-out : goal.returns-then-wrote-out
+returns-then-wrote-out c = ends_full c.loop-used.invariant c.loop-used-test.true c.if-wrote-out.true c.in-Whole.ensures
 
 pub returns-in-Fault : goal.returns-in-Fault
-returns-in-Fault c = ends_wrong c.loop-i.invariant c.loop-i-test.true c.in-Fault.ensures
+returns-in-Fault c = ends_wrong c.loop-used.invariant c.loop-used-test.true c.in-Fault.ensures
 
 pub returns : goal.returns
-returns c = ends_whole c.loop-i.invariant c.loop-i-test.false
+returns c = ends_whole c.loop-used.invariant c.loop-used-test.false
