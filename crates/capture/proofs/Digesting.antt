@@ -1,13 +1,13 @@
 -- A piece that is being worked off: what is left of it makes up what the whole of it makes.
 use Rattle.std.specs.Prelude.{Ok, Err}
-use Prim.Native.Nat.{ℕ, ◌+◌, ◌-◌, ◌*◌, ◌<◌, ◌≤◌}
+use Prim.Native.Nat.{ℕ, ◌+◌, ◌-◌, ◌<◌, ◌≤◌}
 use mathlib.Core.List.{List, [], ◌∷◌, ◌++◌}
 use mathlib.Core.Bool.{true}
 use mathlib.Core.Path.{◌≡◌, refl, sym, ap, ◌∙◌}
 use native.Mathlib.Omega.{arith}
 use borrow.Author.Tests.{le-leb, lt-leb}
-use lib.ListN.{length, get_or, take, drop, length-append, length-drop}
-use lib.Seq.{length-take-le, drop-drop, get_or-drop}
+use lib.ListN.{length, take, drop, length-append, length-drop}
+use lib.Seq.{length-take-le, take_all, drop-drop}
 use Rattle.memory.specs.declared.Bar.{Bar}
 use Rattle.memory.specs.Room.{placed, Written}
 use Rattle.memory.proofs.Pieces.{length_placed, placed_then, no_put}
@@ -20,6 +20,10 @@ use Rattle.capture.proofs.Framing.{first_of, frames_turn, frames_end, later_late
 -- what is still to come from place i of the piece on, with k octets of lines written
 abbrev pub to_come : List ℕ → ℕ → List ℕ → ℕ → ℕ → List Frame
 to_come c offset out i k = fitting (frames_of (later_of offset i) (drop i c)) (length out - k)
+
+-- what is left of a piece from a place on
+pub rest_is : (c : List ℕ) (i : ℕ) → take (length c - i) (drop i c) ≡ drop i c
+rest_is c i = take_all (length c - i) (drop i c) (rw length-drop (omega arith))
 
 pub record Going (c : List ℕ) (offset : ℕ) (l out : List ℕ) (i k : ℕ) : Type 0 where
   pub within : i ≤ length c
@@ -59,73 +63,66 @@ module _ {c : List ℕ} {offset : ℕ} {l out : List ℕ} {i k : ℕ} (g : Going
   unfolding fitting
   stop_short h = stop g (rw (frames_end (later_of offset i) (drop i c) (rw length-drop h)))
 
-  module _ (n : ℕ) (size : n ≡ get_or c i 0 * 256 + get_or c (i + 1) 0) where
-    size_is : frame_size_of (drop i c) ≡ n
-    unfolding frame_size_of
-    size_is =
-        let z : i + 0 ≡ i = omega arith in
-        rw (get_or-drop i c 0 0, get_or-drop i c 1 0, z) (sym size)
+  -- its first message, which stands after its length
+  module _ {m : List ℕ} (whole : 2 + frame_size_of (drop i c) ≤ length (drop i c)) (is : m ≡ take (frame_size_of (drop i c)) (drop 2 (drop i c))) where
+    abbrev frame : Frame
+    frame = first_of (later_of offset i) (drop i c)
 
-    -- the piece ends inside a message
-    pub stop_inside : length c - (i + 2) < n → Digested c offset l out (record { used = i; wrote = k })
-    stop_inside h = stop_short (rw size_is (omega arith))
+    abbrev pub line : List ℕ
+    line = line_of (later_of offset (i + 2)) m
 
-    -- its first message
-    module _ (whole : i + 2 + n ≤ length c) where
-      abbrev frame : Frame
-      frame = first_of (later_of offset i) (drop i c)
+    line_is : line_at frame ≡ line
+    line_is = rw (later_later offset i 2, is) refl
 
-      abbrev pub line : List ℕ
-      line = line_of (later_of offset (i + 2)) (take (i + 2 + n - (i + 2)) (drop (i + 2) c))
+    size_is : frame_size_of (drop i c) ≡ length m
+    size_is = rw is (sym (length-take-le (frame_size_of (drop i c)) (drop 2 (drop i c)) (rw length-drop (omega arith))))
 
-      line_is : line_at frame ≡ line
-      line_is =
-          let m : i + 2 + n - (i + 2) ≡ n = omega arith in
-          rw (later_later offset i 2, size_is, drop-drop 2 i c, m)
+    octets_are : length frame.octets ≡ length m
+    octets_are = rw is
 
-      octets_are : length frame.octets ≡ n
-      octets_are = rw (size_is, drop-drop 2 i c) (length-take-le n (drop (i + 2) c) (rw length-drop (omega arith)))
+    all_there : i + 2 + length m ≤ length c
+    all_there = let s = size_is in let d = rw length-drop at whole in omega arith
 
-      turn : frames_of (later_of offset i) (drop i c) ≡ frame ∷ frames_of (later_of offset (i + 2 + n)) (drop (i + 2 + n) c)
-      turn =
-          let a : i + (2 + n) ≡ i + 2 + n = omega arith in
-          frames_turn (later_of offset i) (drop i c) (rw (size_is, length-drop) (omega arith))
-          ∙ ap (λ (fs : List Frame). frame ∷ fs) (rw (size_is, later_later offset i (2 + n), drop-drop (2 + n) i c, a))
+    turn : frames_of (later_of offset i) (drop i c) ≡ frame ∷ frames_of (later_of offset (i + 2 + length m)) (drop (i + 2 + length m) c)
+    turn =
+        let a : i + (2 + length m) ≡ i + 2 + length m = omega arith in
+        frames_turn (later_of offset i) (drop i c) whole
+        ∙ ap (λ (fs : List Frame). frame ∷ fs) (rw (size_is, later_later offset i (2 + length m), drop-drop (2 + length m) i c, a))
 
-      pub stop_full : {b : Bar} {out' : List ℕ} → Written true k line out out' (Err b) → Digested c offset l out' (record { used = i; wrote = k })
+    pub stop_full : {b : Bar} {out' : List ℕ} → Written true k line out out' (Err b) → Digested c offset l out' (record { used = i; wrote = k })
+    unfolding fitting
+    stop_full w =
+        let r = refused w in
+        let n = ap length line_is in
+        rw r.1 (stop g (rw turn (simp (lt-leb (length (line_at frame)) (length out - k) (omega (arith, g.room, r.0))))))
+
+    module _ {e : ℕ} {out' : List ℕ} (w : Written true k line out out' (Ok e)) where
+      as_long : length out' ≡ length out
+      as_long = rw (took w).2 (length_placed k line out (took w).0)
+
+      next : to_come c offset out i k ≡ frame ∷ to_come c offset out' (i + 2 + length m) e
       unfolding fitting
-      stop_full w =
-          let r = refused w in
-          let n = ap length line_is in
-          rw r.1 (stop g (rw turn (simp (lt-leb (length (line_at frame)) (length out - k) (omega (arith, g.room, r.0))))))
+      next =
+          let r = took w in
+          let y = ap length line_is in
+          let a = as_long in
+          let left : length out - k - length (line_at frame) ≡ length out' - e = omega (arith, r.1) in
+          rw turn (simp (le-leb (length (line_at frame)) (length out - k) (omega (arith, r.0)), left))
 
-      module _ {e : ℕ} {out' : List ℕ} (w : Written true k line out out' (Ok e)) where
-        as_long : length out' ≡ length out
-        as_long = rw (took w).2 (length_placed k line out (took w).0)
+      then_placed : (q : List ℕ) → placed e q out' ≡ placed k (line_at frame ++ q) out
+      then_placed q = let r = took w in rw (r.1, r.2, placed_then k line out r.0 q, line_is)
 
-        next : to_come c offset out i k ≡ frame ∷ to_come c offset out' (i + 2 + n) e
-        unfolding fitting
-        next =
-            let r = took w in
-            let m = ap length line_is in
-            let a = as_long in
-            let left : length out - k - length (line_at frame) ≡ length out' - e = omega (arith, r.1) in
-            rw turn (simp (le-leb (length (line_at frame)) (length out - k) (omega (arith, r.0)), left))
-
-        then_placed : (q : List ℕ) → placed e q out' ≡ placed k (line_at frame ++ q) out
-        then_placed q = let r = took w in rw (r.1, r.2, placed_then k line out r.0 q, line_is)
-
-        pub go_on : Going c offset l out' (i + 2 + n) e
-        unfolding lines_of span_of
-        go_on =
-            let r = took w in
-            let m = ap length line_is in
-            let a = as_long in
-            record {
-              within = whole;
-              room = omega (arith, r.0, r.1);
-              long = a ∙ g.long;
-              used = omega (arith, octets_are, rw next at g.used);
-              wrote = omega (arith, r.1, simp length-append at (rw next at g.wrote));
-              buffer = then_placed (lines_of (to_come c offset out' (i + 2 + n) e)) ∙ (rw next at g.buffer);
-            }
+      pub go_on : Going c offset l out' (i + 2 + length m) e
+      unfolding lines_of span_of
+      go_on =
+          let r = took w in
+          let y = ap length line_is in
+          let a = as_long in
+          record {
+            within = all_there;
+            room = omega (arith, r.0, r.1);
+            long = a ∙ g.long;
+            used = omega (arith, octets_are, rw next at g.used);
+            wrote = omega (arith, r.1, simp length-append at (rw next at g.wrote));
+            buffer = then_placed (lines_of (to_come c offset out' (i + 2 + length m) e)) ∙ (rw next at g.buffer);
+          }

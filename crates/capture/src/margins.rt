@@ -1,5 +1,5 @@
 // What stands around the lines of a capture: the first line, the last, the length before a message, and offsets.
-ghost use Rattle.std.specs.Prelude.{◌≡◌, true, ◌+◌, ◌*◌};
+ghost use Rattle.std.specs.Prelude.{◌≡◌, true};
 ghost use Rattle.memory.specs.Room.{Written};
 ghost use Rattle.capture.specs.Margins.{later_of, first_line, last_line};
 
@@ -10,19 +10,7 @@ use memory::{Bar, write_octets};
 pub fn later(offset: u64, n: usize) -> u64
     ensures { result ≡ later_of offset n }
 {
-    let top = 18446744073709551615;
-    if n as u64 > top - offset {
-        top
-    } else {
-        offset + n as u64
-    }
-}
-
-// A length of two octets, high octet first.
-pub(crate) fn size_of(high: u8, low: u8) -> usize
-    ensures { result ≡ high * 256 + low }
-{
-    high as usize * 256 + low as usize
+    offset.saturating_add(n as u64)
 }
 
 // Writes the line that comes before all others.
@@ -41,8 +29,6 @@ pub fn write_first(buf: &mut [u8], at: usize) -> Result<usize, Bar>
 pub fn write_last(buf: &mut [u8], at: usize, left: usize) -> Result<usize, Bar>
     ensures { Written true at (last_line left) buf.old buf.new result }
 {
-    if left == 0 {
-        return write_octets(buf, at, &[]);
-    }
-    write_octets(buf, at, b"cut\n")
+    let line: &[u8] = if left == 0 { b"" } else { b"cut\n" };
+    write_octets(buf, at, line)
 }

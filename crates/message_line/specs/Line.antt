@@ -1,8 +1,7 @@
 -- The line of a message: the offset of its first octet in the capture, the number 0 to 5, and what the message says.
-use Rattle.std.specs.Prelude.{Result}
+use Rattle.std.specs.Prelude.{Result, ℕ, List, [], ◌∷◌, ◌++◌}
 use Rattle.message_fields.specs.declared.Reading.{Reading}
 use Rattle.message_fields.specs.declared.Fault.{Fault}
-use Rattle.std.specs.Prelude.{ℕ, List, [], ◌∷◌, ◌++◌}
 use Rattle.message.specs.Reading.{read_of}
 use Rattle.text.specs.Decimal.{decimal_of}
 use Rattle.message_line.specs.Columns.{columns_of}

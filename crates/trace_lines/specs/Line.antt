@@ -1,7 +1,6 @@
 -- What `replay` and `explain` print of a record.
-use Rattle.std.specs.Prelude.{Option, Some, None}
+use Rattle.std.specs.Prelude.{Option, Some, None, ℕ, List, [], ◌∷◌, ◌++◌, Bool, true, false}
 use Rattle.sent.specs.declared.Message.{Message}
-use Rattle.std.specs.Prelude.{ℕ, List, [], ◌∷◌, ◌++◌, Bool, true, false}
 use Rattle.user_element.specs.Element.{note_number_of}
 use Rattle.message_types.specs.Kind.{kind_octet}
 use Rattle.trace.specs.Kind.{record_kind_octet}

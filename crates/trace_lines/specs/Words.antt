@@ -1,16 +1,10 @@
 -- What is said of a trace's fault on standard error: which record it is, the octet at which that begins, and which
 -- field.
 use Rattle.std.specs.Prelude.{ℕ, List, [], ◌∷◌, ◌++◌}
-use Rattle.rights.specs.declared.Service.{Service}
 use Rattle.trace.specs.declared.Fault.{Fault}
 use Rattle.trace.specs.declared.Field.{Field}
 use Rattle.text.specs.Decimal.{decimal_of}
-
--- the digit of a service
-abbrev pub service_digit : Service → ℕ
-service_digit Service.One = 49
-service_digit Service.Two = 50
-service_digit Service.Three = 51
+use Rattle.text.specs.Service.{service_digit}
 
 -- `late`, `leave`, `side`, `what`, `cause`, `request 1`, `answer 1`, `element`, `what follows the element`
 abbrev pub field_name : Field → List ℕ

@@ -1,148 +1,125 @@
-// What a message says, item by item, as a column of a line, in a buffer that the caller lends.
-ghost use Rattle.std.specs.Prelude.{true, ◌+◌, ◌≤◌, length};
-ghost use Rattle.memory.specs.Room.{Written};
-ghost use Rattle.text.specs.Pieces.{Piece};
+// What a message says, item by item, as a column of a line.
+ghost use Rattle.std.specs.Prelude.{◌∷◌, ◌+◌, ◌≤◌, length};
+ghost use Rattle.text.specs.Line.{Gains};
 ghost use Rattle.text.specs.Columns.{column};
 ghost use Rattle.trace_lines.specs.Items.{cause_item, level_item, said_item, more_item, element_item, items_of, commas, joined, message_column};
 
-use memory::{Bar, end_of, write_octets};
 use sent::{Level, Message};
 use services::Said;
-use text::decimal::write_decimal;
+use text::line::Line;
 
-pub(crate) fn put(buf: &mut [u8], at: usize, piece: &[u8]) -> usize
-    requires { at + length piece.now ≤ length buf.old }
-    ensures { Piece (length piece.now) at piece.now buf.old buf.new result }
-{
-    end_of(write_octets(buf, at, piece))
-}
+// The items of a message are laid out in 79 octets, as many as the longest of them take. Each function here, and in the
+// lines that these columns are part of, asks for room for the longest that it puts there: another number for each.
 
 #[tactic(auto, unfolding(crate::specs::Items::commas))]
-fn put_cause(buf: &mut [u8], at: usize, c: Option<u8>) -> usize
-    requires { at + 27 ≤ length buf.old }
-    ensures { Piece 27 at (commas (cause_item c)) buf.old buf.new result }
+fn put_cause(items: &mut Line<79>, c: Option<u8>)
+    requires { length items.old + 27 ≤ 79 }
+    ensures { Gains 27 (commas (cause_item c)) items.old items.new }
 {
-    match c {
-        None => at,
-        Some(n) => {
-            let a = put(buf, at, b",cause.");
-            end_of(write_decimal(buf, a, n as u64))
-        }
+    if let Some(n) = c {
+        items.put(b",cause.");
+        items.put_decimal(u64::from(n));
     }
 }
 
 #[tactic(auto, unfolding(crate::specs::Items::commas))]
-fn put_level(buf: &mut [u8], at: usize, l: Level) -> usize
-    requires { at + 9 ≤ length buf.old }
-    ensures { Piece 9 at (commas (level_item l)) buf.old buf.new result }
+fn put_level(items: &mut Line<79>, l: Level)
+    requires { length items.old + 9 ≤ 79 }
+    ensures { Gains 9 (commas (level_item l)) items.old items.new }
 {
     match l {
-        Level::Absent => at,
-        Level::Ready => put(buf, at, b",ready"),
-        Level::NotReady => put(buf, at, b",notready"),
+        Level::Absent => {}
+        Level::Ready => items.put(b",ready"),
+        Level::NotReady => items.put(b",notready"),
     }
+}
+
+// An item of a service: its digit, and what is said of it.
+fn put_service(items: &mut Line<79>, digit: u8, what: &[u8])
+    requires { length items.old + (2 + length what.now) ≤ 79 }
+    ensures { Gains (2 + length what.now) (44 ∷ digit ∷ what.now) items.old items.new }
+{
+    items.put(&[b',', digit]);
+    items.put(what);
 }
 
 // What is said of the service with this digit.
 #[tactic(auto, unfolding(crate::specs::Items::commas))]
-fn put_said(buf: &mut [u8], at: usize, digit: u8, s: Said) -> usize
-    requires { at + 10 ≤ length buf.old }
-    ensures { Piece 10 at (commas (said_item digit s)) buf.old buf.new result }
+fn put_said(items: &mut Line<79>, digit: u8, s: Said)
+    requires { length items.old + 10 ≤ 79 }
+    ensures { Gains 10 (commas (said_item digit s)) items.old items.new }
 {
     match s {
-        Said::Nothing => at,
-        Said::Preferred => put(buf, at, &[b',', digit, b'.', b'p']),
-        Said::Required => put(buf, at, &[b',', digit, b'.', b'r']),
-        Said::Accepted => put(buf, at, &[b',', digit, b'.', b'o', b'k']),
-        Said::ByUser => put(buf, at, &[b',', digit, b'.', b'u', b's', b'e', b'r']),
-        Said::ByNetwork => put(
-            buf,
-            at,
-            &[b',', digit, b'.', b'n', b'e', b't', b'w', b'o', b'r', b'k'],
-        ),
+        Said::Nothing => {}
+        Said::Preferred => put_service(items, digit, b".p"),
+        Said::Required => put_service(items, digit, b".r"),
+        Said::Accepted => put_service(items, digit, b".ok"),
+        Said::ByUser => put_service(items, digit, b".user"),
+        Said::ByNetwork => put_service(items, digit, b".network"),
     }
 }
 
+// This and the next stay two: each meets a definition of its own, `more_item` and `element_item`, that asks for room
+// for its own word.
 #[tactic(auto, unfolding(crate::specs::Items::commas))]
-fn put_more(buf: &mut [u8], at: usize, more: bool) -> usize
-    requires { at + 5 ≤ length buf.old }
-    ensures { Piece 5 at (commas (more_item more)) buf.old buf.new result }
+fn put_more(items: &mut Line<79>, more: bool)
+    requires { length items.old + 5 ≤ 79 }
+    ensures { Gains 5 (commas (more_item more)) items.old items.new }
 {
     if more {
-        return put(buf, at, b",more");
+        items.put(b",more");
     }
-    at
 }
 
 #[tactic(auto, unfolding(crate::specs::Items::commas))]
-fn put_element(buf: &mut [u8], at: usize, element: bool) -> usize
-    requires { at + 8 ≤ length buf.old }
-    ensures { Piece 8 at (commas (element_item element)) buf.old buf.new result }
+fn put_element(items: &mut Line<79>, element: bool)
+    requires { length items.old + 8 ≤ 79 }
+    ensures { Gains 8 (commas (element_item element)) items.old items.new }
 {
     if element {
-        return put(buf, at, b",element");
+        items.put(b",element");
     }
-    at
 }
 
 // All items of a message, each after a `,`.
-#[tactic(auto, unfolding(crate::specs::Items::items_of))]
-fn put_items(buf: &mut [u8], at: usize, m: Message) -> usize
-    requires { at + 79 ≤ length buf.old }
-    ensures { Piece 79 at (commas (items_of m)) buf.old buf.new result }
+#[tactic(auto, unfolding(crate::specs::Items::items_of), using(crate::proofs::Joined::commas_append))]
+fn put_items(items: &mut Line<79>, m: Message)
+    requires { length items.old + 79 ≤ 79 }
+    ensures { Gains 79 (commas (items_of m)) items.old items.new }
 {
-    let cause = m.cause;
-    let level = m.level;
-    let said = m.said;
-    let one = said.one;
-    let two = said.two;
-    let three = said.three;
-    let more = m.more;
-    let element = m.element;
-    let a = put_cause(buf, at, cause);
-    let b = put_level(buf, a, level);
-    let c = put_said(buf, b, b'1', one);
-    let d = put_said(buf, c, b'2', two);
-    let e = put_said(buf, d, b'3', three);
-    let f = put_more(buf, e, more);
-    put_element(buf, f, element)
+    put_cause(items, m.cause);
+    put_level(items, m.level);
+    put_said(items, b'1', m.said.one);
+    put_said(items, b'2', m.said.two);
+    put_said(items, b'3', m.said.three);
+    put_more(items, m.more);
+    put_element(items, m.element);
 }
 
 // The column of a message. The `,` before its first item gives way to the space before the column.
-fn put_message(buf: &mut [u8], at: usize, m: Message) -> usize
-    requires { at + 79 ≤ length buf.old }
-    ensures { Piece 79 at (column (joined (items_of m))) buf.old buf.new result }
+#[tactic(auto, using(crate::proofs::Joined::bare, crate::proofs::Joined::after_the_first))]
+fn put_message(line: &mut Line<248>, m: Message)
+    requires { length line.old + 79 ≤ 248 }
+    ensures { Gains 79 (column (joined (items_of m))) line.old line.new }
 {
-    let end = put_items(buf, at, m);
-    if end == at {
-        return put(buf, at, b" bare");
-    }
-    buf[at] = b' ';
-    end
-}
-
-fn put_sent(buf: &mut [u8], at: usize, s: Option<Message>) -> usize
-    requires { at + 79 ≤ length buf.old }
-    ensures { Piece 79 at (column (message_column s)) buf.old buf.new result }
-{
-    match s {
-        None => put(buf, at, b" -"),
-        Some(m) => put_message(buf, at, m),
-    }
-}
-
-// Writes the column of what is sent to a user; where it does not fit, nothing. Near the buffer's end it is laid out
-// apart first, since how long it is shows only when it is there.
-pub(crate) fn write_sent(buf: &mut [u8], at: usize, s: Option<Message>) -> Result<usize, Bar>
-    ensures written { Written true at (column (message_column s)) buf.old buf.new result }
-    ensures small { length (column (message_column s)) ≤ 79 }
-{
-    if at <= buf.len() {
-        if buf.len() - at >= 79 {
-            return Ok(put_sent(buf, at, s));
+    let mut items = Line::new();
+    put_items(&mut items, m);
+    match items.text() {
+        [] => line.put(b" bare"),
+        [_, rest @ ..] => {
+            line.put(b" ");
+            line.put(rest);
         }
     }
-    let mut piece = [0u8; 79];
-    let n = put_sent(&mut piece, 0, s);
-    write_octets(buf, at, &piece[0..n])
+}
+
+// The column of what is sent to a user.
+pub(crate) fn put_sent(line: &mut Line<248>, s: Option<Message>)
+    requires { length line.old + 79 ≤ 248 }
+    ensures { Gains 79 (column (message_column s)) line.old line.new }
+{
+    match s {
+        None => line.put(b" -"),
+        Some(m) => put_message(line, m),
+    }
 }

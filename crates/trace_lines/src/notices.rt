@@ -10,14 +10,12 @@ use trace::Fault;
 pub fn write_first(buf: &mut [u8], at: usize, explained: bool) -> Result<usize, Bar>
     ensures { Written true at (first_line explained) buf.old buf.new result }
 {
-    if explained {
-        return write_octets(
-            buf,
-            at,
-            b"kind ref answer note calling called to-calling to-called\n",
-        );
-    }
-    write_octets(buf, at, b"kind ref answer note calling called\n")
+    let line: &[u8] = if explained {
+        b"kind ref answer note calling called to-calling to-called\n"
+    } else {
+        b"kind ref answer note calling called\n"
+    };
+    write_octets(buf, at, line)
 }
 
 // Writes the line that ends a run at a fault of the trace.
@@ -25,9 +23,10 @@ pub fn write_first(buf: &mut [u8], at: usize, explained: bool) -> Result<usize, 
 pub fn write_fault(buf: &mut [u8], at: usize, f: Fault) -> Result<usize, Bar>
     ensures { Written true at (fault_line f) buf.old buf.new result }
 {
-    match f {
-        Fault::Kind => write_octets(buf, at, b"error 31\n"),
-        Fault::Short => write_octets(buf, at, b"error 32\n"),
-        Fault::Range(_) => write_octets(buf, at, b"error 33\n"),
-    }
+    let line = match f {
+        Fault::Kind => b"error 31\n",
+        Fault::Short => b"error 32\n",
+        Fault::Range(_) => b"error 33\n",
+    };
+    write_octets(buf, at, line)
 }

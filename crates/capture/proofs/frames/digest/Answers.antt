@@ -1,25 +1,20 @@
-use Rattle.std.proofs.Common.{arith}
-use Rattle.capture.proofs.Digesting.{start, stop_short, stop_inside, stop_full, go_on}
+use Rattle.std.proofs.Common.{arith, length-drop}
+use Rattle.capture.proofs.Digesting.{rest_is, start, stop_short, stop_full, go_on}
 use Rattle.capture.proofs.frames.digest.Goals as goal
 
-pub loop-i-init : goal.loop-i-init
-loop-i-init c = start _ _ _ (omega arith)
+pub loop-message-init : goal.loop-message-init
+loop-message-init c = start _ _ _ (omega arith)
 
-pub returns-then-piece-i-lt2 : goal.returns-then-piece-i-lt2
-returns-then-piece-i-lt2 c = stop_short c.loop-i.invariant (omega arith)
+pub returns-in_default-write_line : goal.returns-in_default-write_line
+returns-in_default-write_line c =
+    let m = rw (rest_is c.args.piece.now c.loop-message.done.used) at c.in-Some.ensures in
+    stop_full c.loop-message.invariant m.0 m.1 (rw (c.in_default-write_line.is, c.later.ensures) at c.write_line.ensures)
 
-pub returns-then-piece-start : goal.returns-then-piece-start
-returns-then-piece-start c = stop_inside c.loop-i.invariant c.size_of-n.result c.size_of-n.ensures c.if-piece-start.true
-
-pub returns-in-Err : goal.returns-in-Err
-returns-in-Err c =
-    stop_full c.loop-i.invariant c.size_of-n.result c.size_of-n.ensures (omega arith)
-    (rw (c.in-Err.is, c.later.ensures) at c.write_line.ensures)
-
-pub loop-i-preserved : goal.loop-i-preserved
-loop-i-preserved c =
-    go_on c.loop-i.invariant c.size_of-n.result c.size_of-n.ensures (omega arith)
-    (rw (c.in-Ok.is, c.later.ensures) at c.write_line.ensures)
+pub loop-message-preserved : goal.loop-message-preserved
+loop-message-preserved c =
+    let m = rw (rest_is c.args.piece.now c.loop-message.done.used) at c.in-Some.ensures in
+    go_on c.loop-message.invariant m.0 m.1 (rw (c.in-Ok.is, c.later.ensures) at c.write_line.ensures)
 
 pub returns : goal.returns
-returns c = stop_short c.loop-i.invariant (omega arith)
+returns c =
+    stop_short c.loop-message.invariant (rw (rest_is c.args.piece.now c.loop-message.done.used, length-drop) at c.in_default.ensures)

@@ -3,8 +3,8 @@ use Rattle.std.proofs.Common.{length, ◌-◌}
 use Rattle.capture.proofs.Digesting.{Going}
 use Rattle.capture.proofs.frames.digest.Given as goal
 
-abbrev pub invariant-loop-i : goal.invariant-loop-i
-invariant-loop-i l = Going l.piece l.offset l.initial.out l.out l.i l.k
+abbrev pub invariant-loop-message : goal.invariant-loop-message
+invariant-loop-message l = Going l.piece l.offset l.initial.out l.out l.done.used l.done.wrote
 
-abbrev pub decreases-loop-i : goal.decreases-loop-i
-decreases-loop-i l = length l.piece - l.i
+abbrev pub decreases-loop-message : goal.decreases-loop-message
+decreases-loop-message l = length l.piece - l.done.used
