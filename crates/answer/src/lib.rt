@@ -7,74 +7,51 @@ ghost use Rattle.user_element.specs.Element.{note_number_of};
 
 use user_element::Note;
 
+// Each answer has its number.
 #[derive(Clone, Copy)]
 pub enum Answer {
-    Taken,
-    OutOfPhase,
-    NotAnEvent,
-    NoService,
-    Spent,
-    NotOpen,
-    NotGranted,
-    BadElement,
-    AskedRequired,
-    OutOfRange,
-    Unsound,
+    Taken = 0,
+    OutOfPhase = 11,
+    NotAnEvent = 12,
+    NoService = 13,
+    Spent = 14,
+    NotOpen = 15,
+    NotGranted = 16,
+    BadElement = 17,
+    AskedRequired = 18,
+    OutOfRange = 24,
+    Unsound = 25,
 }
 
 pub fn taken(a: Answer) -> bool
     ensures { result ≡ taken_of a }
 {
-    match a {
-        Answer::Taken => true,
-        _ => false,
-    }
+    matches!(a, Answer::Taken)
 }
 
-// The first of 25, 11 and 24 that applies, if one does.
+// The first of 25, 11 and 24 that applies. Where none does it is Taken, and not None: so the definition has it.
 pub fn first_bar(sound: bool, allowed: bool, ranged: bool) -> Answer
     ensures { result ≡ first_bar sound allowed ranged }
 {
-    if sound {
-        if allowed {
-            if ranged {
-                Answer::Taken
-            } else {
-                Answer::OutOfRange
-            }
-        } else {
-            Answer::OutOfPhase
-        }
-    } else {
+    if !sound {
         Answer::Unsound
+    } else if !allowed {
+        Answer::OutOfPhase
+    } else if !ranged {
+        Answer::OutOfRange
+    } else {
+        Answer::Taken
     }
 }
 
 pub fn number(a: Answer) -> u8
     ensures { result ≡ number_of a }
 {
-    match a {
-        Answer::Taken => 0,
-        Answer::OutOfPhase => 11,
-        Answer::NotAnEvent => 12,
-        Answer::NoService => 13,
-        Answer::Spent => 14,
-        Answer::NotOpen => 15,
-        Answer::NotGranted => 16,
-        Answer::BadElement => 17,
-        Answer::AskedRequired => 18,
-        Answer::OutOfRange => 24,
-        Answer::Unsound => 25,
-    }
+    a as u8
 }
 
 pub fn note_number(n: Note) -> u8
     ensures { result ≡ note_number_of n }
 {
-    match n {
-        Note::Clear => 0,
-        Note::Malformed => 1,
-        Note::TooLong => 2,
-        Note::NotCarried => 3,
-    }
+    n as u8
 }

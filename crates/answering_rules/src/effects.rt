@@ -15,7 +15,7 @@ fn settled(s: Standing, f: Fate) -> Standing
     match f {
         Fate::Kept => s,
         Fate::Accepted => Standing::InForce,
-        _ => Standing::Closed,
+        Fate::Closed | Fate::Failed => Standing::Closed,
     }
 }
 
@@ -26,7 +26,7 @@ fn told(f: Fate) -> Said
     match f {
         Fate::Kept => Said::Nothing,
         Fate::Accepted => Said::Accepted,
-        _ => Said::ByUser,
+        Fate::Closed | Fate::Failed => Said::ByUser,
     }
 }
 
@@ -36,17 +36,14 @@ fn declined(f: Fate) -> Said
 {
     match f {
         Fate::Kept | Fate::Accepted => Said::Nothing,
-        _ => Said::ByUser,
+        Fate::Closed | Fate::Failed => Said::ByUser,
     }
 }
 
 fn failure(f: Fate) -> bool
     ensures { result ≡ failure_of f }
 {
-    match f {
-        Fate::Failed => true,
-        _ => false,
-    }
+    matches!(f, Fate::Failed)
 }
 
 // Whether a required service failed, which clears the call.
@@ -54,55 +51,28 @@ fn failure(f: Fate) -> bool
 pub fn failed(f: ByService<Fate>) -> bool
     ensures { result ≡ failed_of f }
 {
-    let one = f.one;
-    let two = f.two;
-    let three = f.three;
-    failure(one) | failure(two) | failure(three)
+    f.map(failure).any()
 }
 
 #[tactic(auto, unfolding(crate::specs::Effects::settles_of))]
 pub fn settles(s: ByService<Standing>, f: ByService<Fate>) -> ByService<Standing>
     ensures { result ≡ settles_of s f }
 {
-    let one = s.one;
-    let two = s.two;
-    let three = s.three;
-    let first = f.one;
-    let second = f.two;
-    let third = f.three;
-    ByService {
-        one: settled(one, first),
-        two: settled(two, second),
-        three: settled(three, third),
-    }
+    s.zip_with(f, settled)
 }
 
 #[tactic(auto, unfolding(crate::specs::Effects::tells_of))]
 pub fn tells(f: ByService<Fate>) -> ByService<Said>
     ensures { result ≡ tells_of f }
 {
-    let one = f.one;
-    let two = f.two;
-    let three = f.three;
-    ByService {
-        one: told(one),
-        two: told(two),
-        three: told(three),
-    }
+    f.map(told)
 }
 
 #[tactic(auto, unfolding(crate::specs::Effects::declines_of))]
 pub fn declines(f: ByService<Fate>) -> ByService<Said>
     ensures { result ≡ declines_of f }
 {
-    let one = f.one;
-    let two = f.two;
-    let three = f.three;
-    ByService {
-        one: declined(one),
-        two: declined(two),
-        three: declined(three),
-    }
+    f.map(declined)
 }
 
 // Service 3 comes into force where it is accepted.

@@ -21,35 +21,22 @@ pub enum Fate {
 fn decided(s: Standing, g: Given) -> Fate
     ensures { result ≡ decided_of s g }
 {
-    match s {
-        Standing::Unasked => Fate::Kept,
-        Standing::Preferred => match g {
-            Given::Silent => Fate::Closed,
-            Given::Accepted => Fate::Accepted,
-            Given::Rejected => Fate::Closed,
-        },
-        Standing::Required => match g {
-            Given::Silent => Fate::Failed,
-            Given::Accepted => Fate::Accepted,
-            Given::Rejected => Fate::Failed,
-        },
-        Standing::InForce => Fate::Kept,
-        Standing::Closed => Fate::Kept,
+    match (s, g) {
+        (Standing::Preferred | Standing::Required, Given::Accepted) => Fate::Accepted,
+        (Standing::Preferred, _) => Fate::Closed,
+        (Standing::Required, _) => Fate::Failed,
+        _ => Fate::Kept,
     }
 }
 
-// ByService<Given> to services 1 and 2 are due at ALERTING.
+// The answers to services 1 and 2 are due at ALERTING.
 #[tactic(auto, unfolding(crate::specs::Fates::alerting_fates_of))]
 pub fn alerting_fates(s: ByService<Standing>, a: ByService<Given>) -> ByService<Fate>
     ensures { result ≡ alerting_fates_of s a }
 {
-    let one = s.one;
-    let two = s.two;
-    let first = a.one;
-    let second = a.two;
     ByService {
-        one: decided(one, first),
-        two: decided(two, second),
+        one: decided(s.one, a.one),
+        two: decided(s.two, a.two),
         three: Fate::Kept,
     }
 }
@@ -60,22 +47,17 @@ pub fn alerting_fates(s: ByService<Standing>, a: ByService<Given>) -> ByService<
 pub fn connect_fates(alerted: bool, s: ByService<Standing>, a: ByService<Given>) -> ByService<Fate>
     ensures { result ≡ connect_fates_of alerted s a }
 {
-    let one = s.one;
-    let two = s.two;
-    let three = s.three;
-    let first = a.one;
-    let third = a.three;
+    let three = decided(s.three, a.three);
     if alerted {
         ByService {
-            one: Fate::Kept,
-            two: Fate::Kept,
-            three: decided(three, third),
+            three,
+            ..ByService::same(Fate::Kept)
         }
     } else {
         ByService {
-            one: decided(one, first),
-            two: decided(two, Given::Silent),
-            three: decided(three, third),
+            one: decided(s.one, a.one),
+            two: decided(s.two, Given::Silent),
+            three,
         }
     }
 }

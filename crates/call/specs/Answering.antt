@@ -1,9 +1,8 @@
 -- ALERTING and CONNECT.
-use Rattle.std.specs.Prelude.{Some, None}
+use Rattle.std.specs.Prelude.{Some, None, ℕ, List, Bool, true, false, not}
 use Rattle.services.specs.declared.ByService.{ByService}
 use Rattle.services.specs.declared.Given.{Given}
 use Rattle.answering_rules.specs.declared.Fate.{Fate}
-use Rattle.std.specs.Prelude.{ℕ, List, Bool, true, false, not}
 use Rattle.user_element.specs.declared.Seen.{Seen}
 use Rattle.answer.specs.declared.Answer.{Answer}
 use Rattle.message_types.specs.declared.Kind.{Kind}

@@ -1,8 +1,7 @@
 -- DISCONNECT and RELEASE COMPLETE.
-use Rattle.std.specs.Prelude.{Some, None}
+use Rattle.std.specs.Prelude.{Some, None, ℕ, List, true, leb}
 use Rattle.services.specs.declared.ByService.{ByService}
 use Rattle.services.specs.declared.Given.{Given}
-use Rattle.std.specs.Prelude.{ℕ, List, true, leb}
 use Rattle.user_element.specs.declared.Note.{Note}
 use Rattle.user_element.specs.declared.Seen.{Seen}
 use Rattle.services.specs.declared.Standing.{Standing}

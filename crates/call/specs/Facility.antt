@@ -1,6 +1,5 @@
 -- FACILITY: service 3 while connected.
-use Rattle.std.specs.Prelude.{None}
-use Rattle.std.specs.Prelude.{true, cond}
+use Rattle.std.specs.Prelude.{None, true, cond}
 use Rattle.user_element.specs.declared.Note.{Note}
 use Rattle.answer.specs.declared.Answer.{Answer}
 use Rattle.facility_rules.specs.declared.What.{What}

@@ -1,10 +1,9 @@
 -- The record of a call: as it is opened, and made anew from the one before it.
-use Rattle.std.specs.Prelude.{Bool}
+use Rattle.std.specs.Prelude.{Bool, ℕ}
 use Rattle.services.specs.declared.ByService.{ByService}
 use Rattle.services.specs.declared.Standing.{Standing}
 use Rattle.sent.specs.declared.side.BySide.{BySide}
 use Rattle.flow_meter.specs.declared.Meter.{Meter}
-use Rattle.std.specs.Prelude.{ℕ}
 use Rattle.call.specs.declared.Call.{Call}
 use Rattle.phases.specs.declared.Phase.{Phase}
 use Rattle.rights.specs.declared.Rights.{Rights}

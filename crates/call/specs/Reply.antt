@@ -1,8 +1,7 @@
 -- The tests that come first, 25, 11 and 24, and replies.
-use Rattle.std.specs.Prelude.{Option}
+use Rattle.std.specs.Prelude.{Option, Bool, cond}
 use Rattle.sent.specs.declared.Message.{Message}
 use Rattle.rights.specs.declared.Service.{Service}
-use Rattle.std.specs.Prelude.{Bool, cond}
 use Rattle.user_element.specs.declared.Note.{Note}
 use Rattle.answer.specs.declared.Answer.{Answer}
 use Rattle.sent.specs.declared.side.Side.{Side}

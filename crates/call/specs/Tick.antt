@@ -1,6 +1,5 @@
 -- The tick.
-use Rattle.std.specs.Prelude.{None}
-use Rattle.std.specs.Prelude.{Bool, true}
+use Rattle.std.specs.Prelude.{None, Bool, true}
 use Rattle.user_element.specs.declared.Note.{Note}
 use Rattle.answer.specs.declared.Answer.{Answer}
 use Rattle.call.specs.declared.Call.{Call}

@@ -4,7 +4,7 @@ ghost use Rattle.call.specs.Setup.{proceeds_of, setup_of};
 
 use crate::Call;
 use crate::records::opened;
-use crate::reply::{Reply, heard};
+use crate::reply::Reply;
 use answer::Answer;
 use phases::is_fresh;
 use rights::{Rights, reference_fits, rights_fit};
@@ -17,15 +17,11 @@ fn proceeds(reference: u16, rights: Rights, requests: ByService<Request>, seen: 
     ensures { result ≡ proceeds_of reference rights requests seen }
 {
     let opening = opens(rights, requests, seen);
-    let phase = opening.phase;
-    let standings = opening.standings;
-    let note = opening.note;
-    let dispatch = opening.dispatch;
     Reply {
-        call: opened(reference, rights, phase, standings),
+        call: opened(reference, rights, opening.phase, opening.standings),
         answer: Answer::Taken,
-        note: note,
-        dispatch: dispatch,
+        note: opening.note,
+        dispatch: opening.dispatch,
     }
 }
 
@@ -40,10 +36,9 @@ impl Call {
     ) -> Reply
         ensures { result ≡ setup_of self reference rights requests element.now }
     {
-        let phase = self.phase;
-        let ranged = reference_fits(reference) & rights_fit(rights);
+        let ranged = reference_fits(reference) && rights_fit(rights);
         let seen = look(element, rights.limit);
         let reply = proceeds(reference, rights, requests, seen);
-        heard(self, is_fresh(phase), ranged, reply)
+        self.heard(is_fresh(self.phase), ranged, reply)
     }
 }

@@ -1,36 +1,14 @@
-// A fresh record, a record in its next phase, whether a record is live, and whether a live record is sound.
+// A fresh record, whether a record is live, and whether a live record is sound.
 ghost use Rattle.std.specs.Prelude.{◌≡◌};
-ghost use Rattle.call.specs.Sound.{in_phase_of, ranges_fit, fresh_call, sound_of};
+ghost use Rattle.call.specs.Sound.{fields_fit_of, fresh_call, sound_of};
 ghost use Rattle.phases.specs.Phase.{live_of};
 
 use crate::Call;
-use crate::records::{opened, renewed};
-use flow_meter::{Meter, meter_fits};
+use crate::records::opened;
+use flow_meter::meter_fits;
 use phases::{Phase, is_live};
-use rights::{Rights, no_rights, reference_fits, rights_fit};
-use sent::side::BySide;
+use rights::{no_rights, reference_fits, rights_fit};
 use services::no_services;
-
-// The record keeps what it had: only its phase changes.
-#[tactic(auto, unfolding(crate::specs::Sound::in_phase_of))]
-pub(crate) fn in_phase(c: Call, p: Phase) -> Call
-    ensures { result ≡ in_phase_of c p }
-{
-    let standings = c.standings;
-    let asking = c.asking;
-    let meters = c.meters;
-    renewed(c, p, standings, asking, meters)
-}
-
-// Whether what a live record holds is in range, both meters included.
-fn ranges_fit(reference: u16, rights: Rights, m: BySide<Meter>) -> bool
-    ensures { result ≡ ranges_fit reference rights m }
-{
-    reference_fits(reference)
-        & rights_fit(rights)
-        & meter_fits(m.calling, rights.burst)
-        & meter_fits(m.called, rights.burst)
-}
 
 impl Call {
     #[tactic(auto, unfolding(crate::specs::Sound::fresh_call))]
@@ -43,20 +21,24 @@ impl Call {
     pub fn live(self) -> bool
         ensures { result ≡ live_of self.phase }
     {
-        let phase = self.phase;
-        is_live(phase)
+        is_live(self.phase)
     }
 
-    #[tactic(auto, unfolding(crate::specs::Sound::fields_fit_of, crate::specs::Sound::sound_of))]
+    // Whether what a live record holds is in range, both meters included.
+    #[tactic(auto, unfolding(crate::specs::Sound::fields_fit_of))]
+    fn fields_fit(self) -> bool
+        ensures { result ≡ fields_fit_of self }
+    {
+        reference_fits(self.reference)
+            && rights_fit(self.rights)
+            && meter_fits(self.meters.calling, self.rights.burst)
+            && meter_fits(self.meters.called, self.rights.burst)
+    }
+
+    #[tactic(auto, unfolding(crate::specs::Sound::sound_of))]
     pub fn sound(self) -> bool
         ensures { result ≡ sound_of self }
     {
-        let rights = self.rights;
-        let meters = self.meters;
-        if self.live() {
-            ranges_fit(self.reference, rights, meters)
-        } else {
-            true
-        }
+        !self.live() || self.fields_fit()
     }
 }

@@ -3,7 +3,7 @@ ghost use Rattle.std.specs.Prelude.{◌≡◌};
 ghost use Rattle.call.specs.Step.{not_an_event_of, step_of};
 
 use crate::Call;
-use crate::reply::{Reply, refused};
+use crate::reply::Reply;
 use answer::Answer;
 use event::Event;
 use user_element::Note;
@@ -15,13 +15,13 @@ impl Call {
         ensures { result ≡ not_an_event_of self }
     {
         if self.sound() {
-            refused(self, Answer::NotAnEvent, Note::Clear)
+            self.refused(Answer::NotAnEvent, Note::Clear)
         } else {
-            refused(self, Answer::Unsound, Note::Clear)
+            self.refused(Answer::Unsound, Note::Clear)
         }
     }
 
-    // So is CONGESTION CONTROL.
+    // So is CONGESTION CONTROL. Each has a method: `not_an_event_of` is promised of both by name.
     pub fn congestion_control(self) -> Reply
         ensures { result ≡ not_an_event_of self }
     {

@@ -3,8 +3,7 @@ ghost use Rattle.std.specs.Prelude.{◌≡◌};
 ghost use Rattle.call.specs.Tick.{passes_tick_of, tick_of};
 
 use crate::Call;
-use crate::information::with_meters;
-use crate::reply::{Reply, heard};
+use crate::reply::Reply;
 use answer::Answer;
 use flow_meter::call_meters::{ready, refills};
 use information_rules::serves_three;
@@ -13,32 +12,29 @@ use sent::dispatch::to_users;
 use services::in_force;
 use user_element::Note;
 
-#[tactic(auto, unfolding(crate::specs::Tick::passes_tick_of, crate::specs::Tick::runs_of))]
-fn passes_tick(c: Call) -> Reply
-    ensures { result ≡ passes_tick_of c }
-{
-    let rights = c.rights;
-    let phase = c.phase;
-    let standings = c.standings;
-    let meters = c.meters;
-    let three = standings.three;
-    let calling = meters.calling;
-    let called = meters.called;
-    let runs = serves_three(phase, in_force(three));
-    Reply {
-        call: with_meters(c, refills(meters, rights, runs)),
-        answer: Answer::Taken,
-        note: Note::Clear,
-        dispatch: to_users(ready(calling, runs), ready(called, runs), None),
-    }
-}
-
 impl Call {
+    #[tactic(auto, unfolding(crate::specs::Information::meters_of, crate::specs::Tick::passes_tick_of, crate::specs::Tick::runs_of))]
+    fn passes_tick(self) -> Reply
+        ensures { result ≡ passes_tick_of self }
+    {
+        let runs = serves_three(self.phase, in_force(self.standings.three));
+        let calling = ready(self.meters.calling, runs);
+        let called = ready(self.meters.called, runs);
+        Reply {
+            call: Call {
+                meters: refills(self.meters, self.rights, runs),
+                ..self
+            },
+            answer: Answer::Taken,
+            note: Note::Clear,
+            dispatch: to_users(calling, called, None),
+        }
+    }
+
     #[tactic(auto, unfolding(crate::specs::Tick::tick_of))]
     pub fn tick(self) -> Reply
         ensures { result ≡ tick_of self }
     {
-        let phase = self.phase;
-        heard(self, is_live(phase), true, passes_tick(self))
+        self.heard(is_live(self.phase), true, self.passes_tick())
     }
 }

@@ -1,8 +1,7 @@
 -- A run of a call, the event that follows it and what it gives, as rows of a table; and what such rows are made of.
-use Rattle.std.specs.Prelude.{Option, Some, None}
+use Rattle.std.specs.Prelude.{Option, Some, None, ℕ, ◌-◌, List, [], ◌∷◌, Bool, false, ◌≡◌, replicate}
 use Rattle.sent.specs.declared.Message.{Message}
 use Rattle.services.specs.declared.ByService.{ByService}
-use Rattle.std.specs.Prelude.{ℕ, ◌-◌, List, [], ◌∷◌, Bool, false, ◌≡◌, replicate}
 use Rattle.rights.specs.declared.Rights.{Rights}
 use Rattle.services.specs.declared.Given.{Given}
 use Rattle.services.specs.declared.Request.{Request}

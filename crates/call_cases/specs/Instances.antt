@@ -1,8 +1,7 @@
 -- Every number and every note is met, so that no condition of the tables is void and no promise holds for want of
 -- cases.
-use Rattle.std.specs.Prelude.{Some, None}
+use Rattle.std.specs.Prelude.{Some, None, ℕ, List, [], ◌∷◌, ◌++◌, true, false, ◌≡◌}
 use Rattle.services.specs.declared.ByService.{ByService}
-use Rattle.std.specs.Prelude.{ℕ, List, [], ◌∷◌, ◌++◌, true, false, ◌≡◌}
 use Rattle.rights.specs.declared.Service.{Service}
 use Rattle.services.specs.declared.Given.{Given}
 use Rattle.services.specs.declared.Request.{Request}

@@ -1,14 +1,8 @@
 -- Every field of the next record is what the sentences say, and nothing else.
 use Rattle.services.specs.declared.ByService.{ByService}
 use Rattle.sent.specs.declared.side.BySide.{BySide}
-use Prim.Native.Nat.{ℕ, ◌+◌, ◌-◌}
-use mathlib.Core.List.{List, [], ◌∷◌}
-use mathlib.Core.Bool.{Bool, true, false, cond, not}
-use mathlib.Core.Logic.{inl, inr}
-use mathlib.Core.Path.{◌≡◌, refl, sym, ◌∙◌, ap, subst}
-use native.Mathlib.Omega.{arith}
-use borrow.Author.Tests.{leb-true, leb-false, le-leb, lt-leb}
-use lib.Dec.{leb}
+use Rattle.std.proofs.Common.{ℕ, ◌+◌, ◌-◌, List, [], ◌∷◌, Bool, true, false, cond, not, inl, inr, ◌≡◌, refl, sym, ◌∙◌, ap, subst, arith, leb-true, leb-false, le-leb, leb}
+use Rattle.std.proofs.lemmas.Bool.{lt-leb}
 use Rattle.rights.specs.declared.Rights.{Rights}
 use Rattle.rights.specs.declared.Service.{Service}
 use Rattle.rights.specs.Rights.{has_of}
@@ -51,8 +45,7 @@ use Rattle.call.specs.Setup.{proceeds_of, setup_of}
 use Rattle.call.specs.Sound.{fresh_call, in_phase_of}
 use Rattle.call.specs.Step.{not_an_event_of, step_of}
 use Rattle.call.specs.Tick.{runs_of, passes_tick_of, tick_of}
-use Rattle.logic.proofs.Decide.{never, by_cond, Decides, both, always, over}
-use Rattle.logic.proofs.Decide.{denied as denies}
+use Rattle.logic.proofs.Decide.{never, by_cond, Decides, both, always, over, denied as denies}
 use Rattle.call_promises.specs.Numbers.{Core, Allowed, ServesThree, meter_from, other, tells}
 use Rattle.call_promises.specs.Handling.{Explicit, Implied}
 use Rattle.call_promises.specs.Sends.{Hears, FailsAt, Intact, CountPays, CreditPays, FirstDropped, Agreed}
@@ -60,11 +53,11 @@ use Rattle.call_promises.specs.Refusals.{altered}
 use Rattle.call_promises.specs.Becomes.{turned_to, with_meter, asking_from, topped_both, Stands, unasked, preferred, required, implicit, lacking, Opens, ended, requested, new_record, Earns, earns, earns_not, Answered, on, clears, Last, accepted, as_before, TickAdds, adds, tops, Becomes, setup, alerting, connect, counts, pays, marks, drops, asks, accepts, rejects, refuses, disconnect, release, ticks, rests, NextRecord, acts, bars, IsTheRecord, BecomesExactly, Leads, stays, goes, History}
 use Rattle.call_promises.proofs.Conditions.{has, serves_three}
 use Rattle.call_promises.proofs.Notes.{lacks}
-use Rattle.call_promises.proofs.Phases.{fresh, connectable, talking, active, up, live}
-use Rattle.call_promises.proofs.Phases.{requested as is-requested}
+use Rattle.call_promises.proofs.Phases.{fresh, connectable, talking, active, up, live, requested as is-requested}
 use Rattle.call_promises.proofs.Ranges.{unsound, reference_range, rights_range}
 use Rattle.call_promises.proofs.Seen.{Sight, absent, malformed, too_long, whole, sight}
-use Rattle.call_promises.proofs.Parts.{Let, through, stopped, let_through, Tests, tests, View, alerting_one, alerting_two, alerting_three, connect_one, connect_two, connect_three, settles_is, settles_one, failure, Outcome, sound, fails, outcome, Met, counted, paid, marked, spent, unserved, met, paid_once, left_once, Verdict, agreed, ungranted, neither, verdict, awaits, Third, three_accepted, three_kept, third_of}
+use Rattle.call_promises.proofs.Heard.{Heard, through, barred, heard}
+use Rattle.call_promises.proofs.Parts.{Tests, tests, View, alerting_one, alerting_two, alerting_three, connect_one, connect_two, connect_three, settles_is, settles_one, failure, Outcome, sound, fails, outcome, Met, counted, paid, marked, spent, unserved, met, paid_once, left_once, Verdict, agreed, ungranted, neither, verdict, awaits, Third, three_accepted, three_kept, third_of}
 use Rattle.call_promises.specs.Sound.{Offered, run_of}
 
 -- ---- a record and the sentence that makes it
@@ -72,22 +65,22 @@ use Rattle.call_promises.specs.Sound.{Offered, run_of}
 left_by : {P : Call → Type 0} {c : Call} (d : Call) → c ≡ d → P d → ((n : Call) → P n → d ≡ n) → IsTheRecord P c
 left_by {P} d e p u n = ((λ h. subst P (sym e ∙ h) p), (λ x. e ∙ u n x))
 
--- an event that is let through makes of the record what its reply has, and one that is stopped nothing
+-- an event that is heard makes of the record what its reply has, and one that is barred nothing
 acted : (c : Call) (l : List ℕ) (e : Event) {d : Call} → Hears c e → (n : Call) → IsTheRecord (Becomes c l e) d → NextRecord c l e n → d ≡ n
 acted c l e h n f (acts x b) = (f n).1 b
 acted c l e h n f (bars x) = absurd (x h)
 
-barred : (c : Call) (l : List ℕ) (e : Event) → (Hears c e → ⊥) → (n : Call) → NextRecord c l e n → c ≡ n
-barred c l e h n (acts x b) = absurd (h x)
-barred c l e h n (bars x) = refl
+unmoved : (c : Call) (l : List ℕ) (e : Event) → (Hears c e → ⊥) → (n : Call) → NextRecord c l e n → c ≡ n
+unmoved c l e h n (acts x b) = absurd (h x)
+unmoved c l e h n (bars x) = refl
 
-let_left : (c : Call) (l : List ℕ) (e : Event) (a g : Bool) (r : Reply) {s : Reply} → Let c a g r s → Tests c e a g → IsTheRecord (Becomes c l e) r.call → IsTheRecord (NextRecord c l e) s.call
+heard_left : (c : Call) (l : List ℕ) (e : Event) (a g : Bool) (r : Reply) {s : Reply} → Heard c a g r s → Tests c e a g → IsTheRecord (Becomes c l e) r.call → IsTheRecord (NextRecord c l e) s.call
 unfolding refused_of
-let_left c l e a g r (through p q t) x f =
+heard_left c l e a g r (through p q t) x f =
     let h = x.so p q t in λ n. ((λ k. acts h ((f n).0 k)), (λ y. acted c l e h n f y))
-let_left c l e a g r (stopped n b) x f =
+heard_left c l e a g r (barred n b) x f =
     let h : Hears c e → ⊥ = (λ k. let t = x.back k in n t.0 t.1 t.2) in
-    left_by c refl (bars h) (barred c l e h)
+    left_by c refl (bars h) (unmoved c l e h)
 
 -- ---- SETUP
 
@@ -460,23 +453,23 @@ no_event_lem : (c : Call) (l : List ℕ) (e : Event) → (Allowed e c.phase → 
 unfolding not_an_event_of refused_of
 no_event_lem c l e n =
     let h : Hears c e → ⊥ = (λ k. n k.allowed) in
-    left_by c refl (bars h) (barred c l e h)
+    left_by c refl (bars h) (unmoved c l e h)
 
 pub becomes : BecomesExactly step_of
 unfolding setup_of alerting_of connect_of information_of facility_of disconnect_of release_complete_of tick_of
 becomes c (Event.Setup n r q) l =
-    let_left c l _ _ _ _ (let_through c _ _ _)
+    heard_left c l _ _ _ _ (heard c _ _ _)
     (tests c _ _ _ (unsound c) (fresh c.phase) (denies _ (both _ _ (reference_range n) (rights_range r)))) (setup_left c n r q l)
-becomes c (Event.Alerting a) l = let_left c l _ _ _ _ (let_through c _ _ _) (tests c _ _ _ (unsound c) (is-requested c.phase) always) (alerting_left c a l)
-becomes c (Event.Connect a) l = let_left c l _ _ _ _ (let_through c _ _ _) (tests c _ _ _ (unsound c) (connectable c.phase) always) (connect_left c a l)
+becomes c (Event.Alerting a) l = heard_left c l _ _ _ _ (heard c _ _ _) (tests c _ _ _ (unsound c) (is-requested c.phase) always) (alerting_left c a l)
+becomes c (Event.Connect a) l = heard_left c l _ _ _ _ (heard c _ _ _) (tests c _ _ _ (unsound c) (connectable c.phase) always) (connect_left c a l)
 becomes c (Event.Information side more) l =
-    let_left c l _ _ _ _ (let_through c _ _ _) (tests c _ _ _ (unsound c) (talking c.phase) always)
+    heard_left c l _ _ _ _ (heard c _ _ _) (tests c _ _ _ (unsound c) (talking c.phase) always)
     (information_left c l side more (sight l c.rights.limit))
-becomes c (Event.Facility side what) l = let_left c l _ _ _ _ (let_through c _ _ _) (tests c _ _ _ (unsound c) (active c.phase) always) (facility_left c l side what)
+becomes c (Event.Facility side what) l = heard_left c l _ _ _ _ (heard c _ _ _) (tests c _ _ _ (unsound c) (active c.phase) always) (facility_left c l side what)
 becomes c (Event.Disconnect side cause a) l =
-    let_left c l _ _ _ _ (let_through c _ _ _) (tests c _ _ _ (unsound c) (up c.phase) (over cause 127)) (disconnect_left c l side cause a _)
-becomes c (Event.ReleaseComplete side) l = let_left c l _ _ _ _ (let_through c _ _ _) (tests c _ _ _ (unsound c) (live c.phase) always) (release_left c l side)
-becomes c Event.Tick l = let_left c l _ _ _ _ (let_through c _ _ _) (tests c _ _ _ (unsound c) (live c.phase) always) (tick_left c l)
+    heard_left c l _ _ _ _ (heard c _ _ _) (tests c _ _ _ (unsound c) (up c.phase) (over cause 127)) (disconnect_left c l side cause a _)
+becomes c (Event.ReleaseComplete side) l = heard_left c l _ _ _ _ (heard c _ _ _) (tests c _ _ _ (unsound c) (live c.phase) always) (release_left c l side)
+becomes c Event.Tick l = heard_left c l _ _ _ _ (heard c _ _ _) (tests c _ _ _ (unsound c) (live c.phase) always) (tick_left c l)
 becomes c Event.CallProceeding l = no_event_lem c l _ (λ x. x)
 becomes c Event.CongestionControl l = no_event_lem c l _ (λ x. x)
 

@@ -1,14 +1,9 @@
 -- The service that carries an event's element is the one that the sentences say, and there is no other.
-use Rattle.std.specs.Prelude.{Option, Some, None}
+use Rattle.std.proofs.Common.{Option, Some, None, ℕ, List, Bool, true, false, ◌&&◌, not, ◌≡◌, refl, sym, ◌∙◌, ap, subst, arith}
 use Rattle.services.specs.declared.ByService.{ByService}
 use Rattle.services.specs.declared.Request.{Request}
 use Rattle.services.specs.declared.Given.{Given}
 use Rattle.answering_rules.specs.declared.Fate.{Fate}
-use Prim.Native.Nat.{ℕ}
-use mathlib.Core.List.{List}
-use mathlib.Core.Bool.{Bool, true, false, ◌&&◌, not}
-use mathlib.Core.Path.{◌≡◌, refl, sym, ◌∙◌, ap, subst}
-use native.Mathlib.Omega.{arith}
 use Rattle.rights.specs.declared.Rights.{Rights}
 use Rattle.rights.specs.declared.Service.{Service}
 use Rattle.services.specs.Standing.{in_force_of}
@@ -38,8 +33,7 @@ use Rattle.call.specs.Reply.{refused_of, reply_of}
 use Rattle.call.specs.Setup.{proceeds_of, setup_of}
 use Rattle.call.specs.Step.{not_an_event_of, step_of}
 use Rattle.call.specs.Tick.{passes_tick_of, tick_of}
-use Rattle.logic.proofs.Decide.{never, both, Denies, always, over}
-use Rattle.logic.proofs.Decide.{denied as denies}
+use Rattle.logic.proofs.Decide.{never, both, Denies, always, over, denied as denies}
 use Rattle.call_promises.specs.Numbers.{Allowed}
 use Rattle.call_promises.specs.Notes.{Bare, NotCarried, limit_for}
 use Rattle.call_promises.specs.Sends.{Hears, Flags, Rides, Intact, CountPays, CreditPays}
@@ -48,7 +42,8 @@ use Rattle.call_promises.proofs.Notes.{setup_carries, disconnect_comes}
 use Rattle.call_promises.proofs.Phases.{fresh, requested, connectable, talking, active, up, live}
 use Rattle.call_promises.proofs.Ranges.{unsound, reference_range, rights_range}
 use Rattle.call_promises.proofs.Seen.{Sight, absent, malformed, too_long, whole, sight}
-use Rattle.call_promises.proofs.Parts.{Let, through, stopped, let_through, Tests, tests, rides, Met, counted, paid, marked, spent, unserved, met, paid_once, left_once}
+use Rattle.call_promises.proofs.Heard.{Heard, through, barred, heard}
+use Rattle.call_promises.proofs.Parts.{Tests, tests, rides, Met, counted, paid, marked, spent, unserved, met, paid_once, left_once}
 use Rattle.call_promises.proofs.Sends.{alerting_denies, connect_denies}
 
 -- ---- a carrier and the sentence that names it
@@ -67,11 +62,11 @@ none_bears {k} e = let z : ◌≡◌ {A = ℕ} 0 1 = cc in omega arith
 borne_none : {P : Service → Type 0} {x : Option Service} → x ≡ None → ((j : Service) → P j → ⊥) → IsTheCarrier P x
 borne_none e f j = ((λ h. absurd (none_bears (sym e ∙ h))), (λ y. absurd (f j y)))
 
--- an event that is let through has the carrier of its reply, and one that is stopped none
-let_borne : (c : Call) (e : Event) (l : List ℕ) (a g : Bool) (r : Reply) {s : Reply} → Let c a g r s → Tests c e a g → IsTheCarrier (Carries c l e) r.dispatch.carrier → IsTheCarrier (λ k. Hears c e × Carries c l e k) s.dispatch.carrier
+-- an event that is heard has the carrier of its reply, and one that is barred none
+heard_borne : (c : Call) (e : Event) (l : List ℕ) (a g : Bool) (r : Reply) {s : Reply} → Heard c a g r s → Tests c e a g → IsTheCarrier (Carries c l e) r.dispatch.carrier → IsTheCarrier (λ k. Hears c e × Carries c l e k) s.dispatch.carrier
 unfolding refused_of
-let_borne c e l a g r (through p q t) x f k = ((λ h. (x.so p q t, (f k).0 h)), (λ y. (f k).1 y.1))
-let_borne c e l a g r (stopped n b) x f k =
+heard_borne c e l a g r (through p q t) x f k = ((λ h. (x.so p q t, (f k).0 h)), (λ y. (f k).1 y.1))
+heard_borne c e l a g r (barred n b) x f k =
     borne_none {P = λ j. Hears c e × Carries c l e j} refl (λ j y. let t = x.back y.0 in n t.0 t.1 t.2) k
 
 -- ---- SETUP, ALERTING, CONNECT and DISCONNECT: service 1, where the element goes out
@@ -210,22 +205,22 @@ no_event_lem c e l n = borne_none {P = λ k. Hears c e × Carries c l e k} refl 
 pub carriers : CarriersExactly step_of
 unfolding setup_of alerting_of connect_of information_of facility_of disconnect_of release_complete_of tick_of
 carriers c (Event.Setup n r q) l =
-    let_borne c _ l _ _ _ (let_through c _ _ _)
+    heard_borne c _ l _ _ _ (heard c _ _ _)
     (tests c _ _ _ (unsound c) (fresh c.phase) (denies _ (both _ _ (reference_range n) (rights_range r)))) (setup_borne c n r q l)
 carriers c (Event.Alerting a) l =
-    let_borne c _ l _ _ _ (let_through c _ _ _) (tests c _ _ _ (unsound c) (requested c.phase) always) (alerting_borne c a l)
+    heard_borne c _ l _ _ _ (heard c _ _ _) (tests c _ _ _ (unsound c) (requested c.phase) always) (alerting_borne c a l)
 carriers c (Event.Connect a) l =
-    let_borne c _ l _ _ _ (let_through c _ _ _) (tests c _ _ _ (unsound c) (connectable c.phase) always) (connect_borne c a l)
+    heard_borne c _ l _ _ _ (heard c _ _ _) (tests c _ _ _ (unsound c) (connectable c.phase) always) (connect_borne c a l)
 carriers c (Event.Information from more) l =
-    let_borne c _ l _ _ _ (let_through c _ _ _) (tests c _ _ _ (unsound c) (talking c.phase) always)
+    heard_borne c _ l _ _ _ (heard c _ _ _) (tests c _ _ _ (unsound c) (talking c.phase) always)
     (information_borne c l from more (sight l c.rights.limit))
 carriers c (Event.Facility from what) l =
-    let_borne c _ l _ _ _ (let_through c _ _ _) (tests c _ _ _ (unsound c) (active c.phase) always) (facility_borne c l from what)
+    heard_borne c _ l _ _ _ (heard c _ _ _) (tests c _ _ _ (unsound c) (active c.phase) always) (facility_borne c l from what)
 carriers c (Event.Disconnect from cause a) l =
-    let_borne c _ l _ _ _ (let_through c _ _ _) (tests c _ _ _ (unsound c) (up c.phase) (over cause 127)) (disconnect_borne c l from cause a)
+    heard_borne c _ l _ _ _ (heard c _ _ _) (tests c _ _ _ (unsound c) (up c.phase) (over cause 127)) (disconnect_borne c l from cause a)
 carriers c (Event.ReleaseComplete from) l =
-    let_borne c _ l _ _ _ (let_through c _ _ _) (tests c _ _ _ (unsound c) (live c.phase) always) (release_borne c l from)
+    heard_borne c _ l _ _ _ (heard c _ _ _) (tests c _ _ _ (unsound c) (live c.phase) always) (release_borne c l from)
 carriers c Event.Tick l =
-    let_borne c _ l _ _ _ (let_through c _ _ _) (tests c _ _ _ (unsound c) (live c.phase) always) (tick_borne c l)
+    heard_borne c _ l _ _ _ (heard c _ _ _) (tests c _ _ _ (unsound c) (live c.phase) always) (tick_borne c l)
 carriers c Event.CallProceeding l = no_event_lem c _ l (λ x. x)
 carriers c Event.CongestionControl l = no_event_lem c _ l (λ x. x)

@@ -1,11 +1,6 @@
 -- The causes follow from what is sent, and of 29 from the causes.
-use Rattle.std.specs.Prelude.{Option, Some}
+use Rattle.std.proofs.Common.{Option, Some, ℕ, List, inl, inr, ◌≡◌, refl, sym, ◌∙◌, subst, arith}
 use Rattle.services.specs.declared.ByService.{ByService}
-use Prim.Native.Nat.{ℕ}
-use mathlib.Core.List.{List}
-use mathlib.Core.Logic.{inl, inr}
-use mathlib.Core.Path.{◌≡◌, refl, sym, ◌∙◌, subst}
-use native.Mathlib.Omega.{arith}
 use Rattle.rights.specs.declared.Service.{Service}
 use Rattle.services.specs.declared.Given.{Given}
 use Rattle.services.specs.declared.Standing.{Standing}
@@ -20,7 +15,8 @@ use Rattle.call_promises.specs.Refusals.{sent_to}
 use Rattle.call_promises.specs.Services.{standing_for, alerting as at-alerting, connect as at-connect}
 use Rattle.call_promises.specs.Sends.{Hears, Due, ringing, third, first, second, FailsAt, on, clears, clears_too, Sends, released, proceeding, setup, alerting, connect, passes, warns, facility, refuses, disconnect, release, ready, SendsExactly}
 use Rattle.call_promises.specs.Causes.{RequiredFails, CauseTold, refused, proceeds, goes_on, fails, fails_too, alerts, connects, informs, not_ready, about_three, own, bare, ready_again, Bears, bears, Causes, OneCause, OwnWord, says, TwentyNine}
-use Rattle.call_promises.proofs.Parts.{rides, not_three, nor_three, silence_no, alerting_one, alerting_two, alerting_three, connect_one, connect_two, connect_three, turned_is}
+use Rattle.call_promises.proofs.Conditions.{silence_no}
+use Rattle.call_promises.proofs.Parts.{rides, not_three, nor_three, alerting_one, alerting_two, alerting_three, connect_one, connect_two, connect_three, turned_is}
 use Rattle.call_promises.proofs.Notes.{disconnect_comes}
 use Rattle.call_promises.proofs.Phases.{requested}
 use Rattle.call_promises.proofs.Seen.{sight}

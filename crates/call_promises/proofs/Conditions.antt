@@ -1,17 +1,17 @@
 -- Each test of a service decides the paper's condition.
-use mathlib.Core.Bool.{Bool, true, false, ◌&&◌}
-use mathlib.Core.Logic.{◌⊎◌, inl, inr, ⊎_elim}
-use mathlib.Core.Path.{◌≡◌, refl}
+use Rattle.std.proofs.Common.{Bool, true, false, ◌&&◌, ◌⊎◌, inl, inr, ⊎_elim, ◌≡◌, refl, ℕ, ◌||◌, arith}
 use Rattle.rights.specs.declared.Rights.{Rights}
 use Rattle.rights.specs.declared.Service.{Service}
 use Rattle.services.specs.declared.Standing.{Standing}
 use Rattle.phases.specs.declared.Phase.{Phase}
 use Rattle.sent.specs.declared.side.Side.{Side}
 use Rattle.call.specs.declared.Call.{Call}
+use Rattle.services.specs.declared.Given.{Given}
+use Rattle.flow_meter.specs.CallMeters.{meter_of}
 use Rattle.rights.specs.Rights.{has_of}
 use Rattle.services.specs.Standing.{in_force_of}
 use Rattle.information_rules.specs.Serving.{late_of, serves_two_of, serves_three_of}
-use Rattle.call_promises.specs.Numbers.{InForce, Has, ServesTwo, ServesThree}
+use Rattle.call_promises.specs.Numbers.{InForce, Has, ServesTwo, ServesThree, meter_from}
 use Rattle.logic.proofs.Decide.{never, Decides, both, as_is, eq}
 
 -- services
@@ -61,3 +61,15 @@ serves_two c side =
       so = two_so c.standings.two c.rights.late c.phase side;
       back = ⊎_elim (λ x. rw (x.0, x.1) refl) (λ x. rw (x.0, x.1, x.2, x.3) refl);
     }
+
+-- steps that several proofs take
+pub same_meter : (c : Call) (side : Side) → meter_of c.meters side ≡ meter_from c side
+same_meter c Side.Calling = refl
+same_meter c Side.Called = refl
+
+pub or_false : (a b : Bool) → (a || b) ≡ false → (a ≡ false) × (b ≡ false)
+or_false true b h = never refl h
+or_false false b h = (refl, h)
+
+pub silence_no : Given.Silent ≡ Given.Accepted → ⊥
+silence_no e = let z : ◌≡◌ {A = ℕ} 0 1 = cc e in omega arith

@@ -1,15 +1,7 @@
 -- Each credit and each count is that of the account of the events.
 use Rattle.services.specs.declared.ByService.{ByService}
 use Rattle.sent.specs.declared.side.BySide.{BySide}
-use Prim.Native.Nat.{ℕ}
-use mathlib.Core.List.{List, [], ◌∷◌}
-use mathlib.Core.Bool.{Bool, true, false, cond, ◌&&◌, ◌||◌, not}
-use mathlib.Core.Logic.{◌⊎◌, inl, inr}
-use mathlib.Core.Path.{◌≡◌, refl, ap, ◌∙◌}
-use native.Mathlib.Omega.{arith}
-use borrow.Author.Tests.{eqb-true}
-use lib.ListN.{length}
-use lib.Dec.{ltb, leb, eqb}
+use Rattle.std.proofs.Common.{ℕ, List, [], ◌∷◌, Bool, true, false, cond, ◌&&◌, ◌||◌, not, ◌⊎◌, inl, inr, ◌≡◌, refl, ap, ◌∙◌, arith, eqb-true, length, ltb, leb, eqb}
 use Rattle.flow_meter.specs.declared.Meter.{Meter}
 use Rattle.flow_meter.specs.declared.passage.Passage.{Passage}
 use Rattle.user_element.specs.declared.Seen.{Seen}
@@ -522,7 +514,7 @@ module _ (c : Call) (q : ByService Request) (more : Bool) where
     where
       view : {s : Reply} → Heard c (talking_of c.phase) true (with_element_of c (seen_of l c.rights.limit) (carried_of c side more (information_passage_of c side))) s → Covers c q side s
       view (through s h k) = element_covers side _ h
-      view (barred x) = λ z. absurd (bar_not_taken x z)
+      view (barred _ x) = λ z. absurd (bar_not_taken x z)
 
 pub covered : Covered step_of
 covered os side more l z =

@@ -1,12 +1,7 @@
 -- A service in force was asked for and accepted in the run.
 use Rattle.services.specs.declared.ByService.{ByService}
 use Rattle.sent.specs.declared.side.BySide.{BySide}
-use Prim.Native.Nat.{ℕ}
-use mathlib.Core.List.{List, [], ◌∷◌, ◌++◌, append-nil, append_assoc}
-use mathlib.Core.Bool.{Bool, true, false, cond, ◌||◌, not}
-use mathlib.Core.Logic.{◌⊎◌, inl, inr, ⊎_elim}
-use mathlib.Core.Path.{◌≡◌, refl}
-use native.Mathlib.Omega.{arith}
+use Rattle.std.proofs.Common.{ℕ, List, [], ◌∷◌, ◌++◌, append-nil, append_assoc, Bool, true, false, cond, ◌||◌, not, ◌⊎◌, inl, inr, ⊎_elim, ◌≡◌, refl, arith}
 use Rattle.user_element.specs.declared.Seen.{Seen}
 use Rattle.rights.specs.declared.Rights.{Rights}
 use Rattle.rights.specs.declared.Service.{Service}
@@ -87,7 +82,7 @@ module _ (c : Call) (k : Service) (e : Event) (l : List ℕ) where
   heard_traces : (a g : Bool) (r : Reply) {s : Reply} → Heard c a g r s → TracesOf c k e l r → TracesOf c k e l s
   unfolding refused_of
   heard_traces a g r (through _ _ _) t = t
-  heard_traces a g r (barred x) t = same c _ refl refl refl
+  heard_traces a g r (barred _ x) t = same c _ refl refl refl
 
 -- SETUP
 stands_asked : (x : Request) (had : Bool) → Stands (asked_standing_of x had) → Explicit x × (had ≡ true)

@@ -1,17 +1,8 @@
 -- What goes out is whole and under a service, and what has no note goes out.
-use Rattle.std.specs.Prelude.{Option, Some, None}
+use Rattle.std.proofs.Common.{Option, Some, None, ℕ, ◌<◌, ◌≤◌, List, [], Bool, true, false, cond, ◌&&◌, not, ◌⊎◌, inl, inr, ⊎_elim, ◌≡◌, refl, ap, arith, ltb-true, length, ltb}
 use Rattle.services.specs.declared.ByService.{ByService}
 use Rattle.services.specs.declared.Said.{Said}
 use Rattle.answering_rules.specs.declared.Fate.{Fate}
-use Prim.Native.Nat.{ℕ, ◌<◌, ◌≤◌}
-use mathlib.Core.List.{List, []}
-use mathlib.Core.Bool.{Bool, true, false, cond, ◌&&◌, not}
-use mathlib.Core.Logic.{◌⊎◌, inl, inr, ⊎_elim}
-use mathlib.Core.Path.{◌≡◌, refl, ap}
-use native.Mathlib.Omega.{arith}
-use borrow.Author.Tests.{ltb-true}
-use lib.ListN.{length}
-use lib.Dec.{ltb}
 use Rattle.flow_meter.specs.declared.passage.Passage.{Passage}
 use Rattle.user_element.specs.declared.Note.{Note}
 use Rattle.user_element.specs.declared.Seen.{Seen}
@@ -38,7 +29,7 @@ use Rattle.call.specs.Answering.{goes_on_of, clears_of, answered_call_of, answer
 use Rattle.call.specs.Disconnect.{closed_call_of, passed_on_of, disconnect_of, ends_of, release_complete_of}
 use Rattle.facility_rules.specs.Messages.{about_three_of}
 use Rattle.call.specs.Facility.{passes_facility_of, facility_of}
-use Rattle.flow_meter.specs.CallMeters.{meter_of, ready_of}
+use Rattle.flow_meter.specs.CallMeters.{ready_of}
 use Rattle.call.specs.Information.{information_passage_of, carried_of, with_element_of, information_of}
 use Rattle.call.specs.Reply.{refused_of, reply_of}
 use Rattle.call.specs.Setup.{proceeds_of, setup_of}
@@ -50,7 +41,7 @@ use Rattle.call_promises.specs.Refusals.{sent_to}
 use Rattle.call_promises.specs.Handling.{handed_in, Goes, setup, alerting, connect, information, disconnect, HandedWhole, Unaltered, Unnoted, Out, GoesOut, Explicit, Implied, Under, opening, alerted, connected, counted, credited, cleared, UnderAService}
 use Rattle.logic.proofs.Decide.{never, by_cond, Decides, both, as_is, lt}
 use Rattle.call_promises.proofs.Heard.{bar_not_taken, Heard, through, barred, heard}
-use Rattle.call_promises.proofs.Conditions.{in_force, has, serves_two, serves_three}
+use Rattle.call_promises.proofs.Conditions.{in_force, has, serves_two, serves_three, same_meter}
 use Rattle.call_promises.proofs.Seen.{Sight, absent, malformed, too_long, whole, sight}
 
 -- no element goes out in the message
@@ -87,7 +78,7 @@ refused_passes c e l x note f = record { to = Side.Calling; on = plain tt (λ o 
 
 heard_passes : (c : Call) (e : Event) (l : List ℕ) (a g : Bool) (r : Reply) {s : Reply} → Heard c a g r s → Passes c e l r → Passes c e l s
 heard_passes c e l a g r (through _ _ _) p = p
-heard_passes c e l a g r (barred x) p = refused_passes c e l _ _ (λ _. bar_not_taken x)
+heard_passes c e l a g r (barred _ x) p = refused_passes c e l _ _ (λ _. bar_not_taken x)
 
 -- an element goes out only if it is whole
 whole_so : (l : List ℕ) (limit : ℕ) {s : Seen} (carried : Bool) → Sight l limit s → goes_out_of s carried ≡ true → (s ≡ Seen.Whole) × WellFormed l × (length l ≤ limit) × (carried ≡ true)
@@ -198,9 +189,6 @@ module _ (c : Call) (side : Side) where
   served_under : {l : List ℕ} {d : Call} {more : Bool} → Served → Under c l d (Event.Information side more)
   served_under = ⊎_elim (λ x. counted x.0 x.1) (λ x. credited x.0 x.1)
 
-  meter_from_lem : meter_of c.meters side ≡ meter_from c side
-  meter_from_lem = elim side [ Side.Calling ↦ refl | Side.Called ↦ refl ]
-
   passage_by : (two three : Bool) → Decides two (ServesTwo c side) → Decides three (ServesThree c) → passes_of (passage_of (meter_from c side) two three) ≡ true → Served
   unfolding passage_of under_three_of
   passage_by two three d g =
@@ -215,7 +203,7 @@ module _ (c : Call) (side : Side) where
 
   passage_served : passes_of (information_passage_of c side) ≡ true → Served
   unfolding information_passage_of
-  passage_served h = passage_by _ _ (serves_two c side) (serves_three c) (rw meter_from_lem at h)
+  passage_served h = passage_by _ _ (serves_two c side) (serves_three c) (rw (same_meter c side) at h)
 
   module _ (more : Bool) (l : List ℕ) where
     carried_passes : Sight l c.rights.limit Seen.Whole → Passes c (Event.Information side more) l (carried_of c side more (information_passage_of c side))

@@ -2,13 +2,7 @@
 use Rattle.services.specs.declared.ByService.{ByService}
 use Rattle.services.specs.declared.Request.{Request}
 use Rattle.sent.specs.declared.side.BySide.{BySide}
-use Prim.Native.Nat.{ℕ, ◌+◌, ◌≤◌}
-use mathlib.Core.List.{List}
-use mathlib.Core.Bool.{Bool, true, false, ◌&&◌}
-use mathlib.Core.Path.{◌≡◌, refl}
-use native.Mathlib.Omega.{arith}
-use borrow.Author.Tests.{leb-true, ltb-true}
-use lib.Dec.{ltb, leb}
+use Rattle.std.proofs.Common.{ℕ, ◌+◌, ◌≤◌, List, Bool, true, false, ◌&&◌, ◌≡◌, refl, arith, leb-true, ltb-true, ltb, leb}
 use Rattle.flow_meter.specs.declared.Meter.{Meter}
 use Rattle.user_element.specs.declared.Seen.{Seen}
 use Rattle.rights.specs.declared.Rights.{Rights}
@@ -37,12 +31,9 @@ use Rattle.call.specs.Sound.{in_phase_of}
 use Rattle.call.specs.Step.{not_an_event_of, step_of}
 use Rattle.call.specs.Tick.{runs_of, passes_tick_of, tick_of}
 use Rattle.call_promises.specs.Ranges.{ReferenceInRange, RightsInRange, MeterInRange, InRangeCall}
-use Rattle.logic.proofs.Decide.{never, by_cond}
+use Rattle.logic.proofs.Decide.{by_cond}
+use Rattle.logic.proofs.Tests.{both}
 use Rattle.facility_rules.specs.Asking.{facility_meters_of}
-
-open_and : (a b : Bool) → (a && b) ≡ true → b ≡ true
-open_and true b h = h
-open_and false b h = never h refl
 
 -- one meter
 module _ (b : ℕ) (m : Meter) (i : MeterInRange b m) where
@@ -69,7 +60,7 @@ module _ (b : ℕ) (m : Meter) (i : MeterInRange b m) where
   unfolding passage_of counted_of
   passage_in two three =
       by_cond (λ p. MeterInRange b (after_of m p)) (two && ltb m.count 2)
-      (λ t. record { credit = i.credit; count = let h = ltb-true m.count 2 (open_and two _ t) in omega arith })
+      (λ t. record { credit = i.credit; count = let h = ltb-true m.count 2 (both two _ t).1 in omega arith })
       (λ _.
       by_cond (λ p. MeterInRange b (after_of m p)) three (λ _. under_three_in)
       (λ _. by_cond (λ p. MeterInRange b (after_of m p)) two (λ _. i) (λ _. i)))

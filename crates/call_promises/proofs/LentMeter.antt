@@ -1,14 +1,6 @@
 -- The lent meter and the meters of a call.
-use Rattle.std.specs.Prelude.{Option, Some, None}
+use Rattle.std.proofs.Common.{Option, Some, None, ℕ, ◌≤◌, List, [], ◌∷◌, Bool, true, false, cond, ◌↔◌, inl, inr, ◌≡◌, refl, ap, sym, ◌∙◌, arith, lit≤, length}
 use Rattle.sent.specs.declared.Message.{Message}
-use Prim.Native.Nat.{ℕ, ◌≤◌}
-use mathlib.Core.List.{List, [], ◌∷◌}
-use mathlib.Core.Bool.{Bool, true, false, cond}
-use mathlib.Core.Logic.{◌↔◌, inl, inr}
-use mathlib.Core.Path.{◌≡◌, refl, ap, sym, ◌∙◌}
-use native.Mathlib.Omega.{arith}
-use lib.Dec.{lit≤}
-use lib.ListN.{length}
 use Rattle.flow_meter.specs.declared.Meter.{Meter}
 use Rattle.flow_meter.specs.declared.lent.Spent.{Spent}
 use Rattle.flow_meter.specs.declared.lent.Ticked.{Ticked}
@@ -112,7 +104,7 @@ mark_so Passage.Spent = (λ h. never (ap is_marked h) refl, λ k. never (ap is_s
 mark_so Passage.Unserved = (λ h. never (ap is_marked h) refl, λ k. never (ap is_sent k) refl)
 
 module _ (c : Call) (more : Bool) (burst : ℕ) (two three : Bool) (p : Passage) where
-  carried_alike : (side : Side) → (spends_of (meter_of c.meters side) burst two three).spent ≡ spent_by p → (spends_of (meter_of c.meters side) burst two three).next ≡ after_of (meter_of c.meters side) p → SpendsAlike (meter_from c side) (meter_from c (other side)) burst two three side (carried_of c side more p)
+  carried_alike : (side : Side) → (spends_of (meter_of c.meters side) burst two three).answer ≡ spent_by p → (spends_of (meter_of c.meters side) burst two three).next ≡ after_of (meter_of c.meters side) p → SpendsAlike (meter_from c side) (meter_from c (other side)) burst two three side (carried_of c side more p)
   unfolding carried_of reply_of meters_of
   carried_alike Side.Calling e f =
       record {
@@ -130,7 +122,7 @@ module _ (c : Call) (more : Bool) (burst : ℕ) (two three : Bool) (p : Passage)
       }
 
 module _ (m : Meter) (burst : ℕ) (two three : Bool) (fits : lent_fits_of m burst ≡ true) where
-  spent_so : (spends_of m burst two three).spent ≡ spent_by (passage_of m two three)
+  spent_so : (spends_of m burst two three).answer ≡ spent_by (passage_of m two three)
   unfolding spends_of
   spent_so = simp fits
 

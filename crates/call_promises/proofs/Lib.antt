@@ -20,3 +20,4 @@ pub mod Causes
 pub mod Carriers
 pub mod Becomes
 pub mod LentMeter
+pub mod Opened

@@ -1,14 +1,8 @@
 -- More rights never hand over less: one event, then runs.
-use Rattle.std.specs.Prelude.{Option, Some, None}
+use Rattle.std.proofs.Common.{Option, Some, None, ℕ, List, [], ◌∷◌, Bool, true, false, cond, ◌&&◌, ◌||◌, not, inl, inr, ⊎_elim, ◌≡◌, refl, sym, ap, ◌∙◌, arith}
 use Rattle.sent.specs.declared.Message.{Message}
 use Rattle.services.specs.declared.ByService.{ByService}
 use Rattle.sent.specs.declared.side.BySide.{BySide}
-use Prim.Native.Nat.{ℕ}
-use mathlib.Core.List.{List, [], ◌∷◌}
-use mathlib.Core.Bool.{Bool, true, false, cond, ◌&&◌, ◌||◌, not}
-use mathlib.Core.Logic.{inl, inr, ⊎_elim}
-use mathlib.Core.Path.{◌≡◌, refl, sym, ap, ◌∙◌}
-use native.Mathlib.Omega.{arith}
 use Rattle.flow_meter.specs.declared.Meter.{Meter}
 use Rattle.user_element.specs.declared.Note.{Note}
 use Rattle.user_element.specs.declared.Seen.{Seen}
@@ -63,7 +57,7 @@ use Rattle.logic.proofs.Decide.{never}
 use Rattle.call_promises.proofs.Heard.{Heard, through, barred, heard}
 use Rattle.call_promises.proofs.Phases.{requested, connectable, talking, active, up, live}
 use Rattle.call_promises.proofs.Ranges.{rights_range, unsound}
-use Rattle.call_promises.proofs.Conditions.{has}
+use Rattle.call_promises.proofs.Conditions.{has, or_false}
 use Rattle.call_promises.proofs.Sound.{step_in}
 use Rattle.call_promises.proofs.Beside.{and_right, and_left, idle_of, easy_of, Above, same, less, idle_force, force_up, remains_up, closing_up, twin_decided, twin_due, Third, shared, apart, above_third, Poorer, counts_of, passages, ticked_poorer, Poor, granted_count, grants_poor, third_poor, third_settled, Below}
 
@@ -161,7 +155,7 @@ module _ (c : Call) (h : over_of c.phase ≡ true) where
     where
       view : {q : Reply} → Heard c a g p q → Silent q
       view (through s t k) = f t
-      view (barred x) = silent_refused _ _
+      view (barred _ x) = silent_refused _ _
 
 -- phases
 shut : (p : Phase) → over_of p ≡ true → (fresh_of p ≡ false) × (requested_of p ≡ false) × (connectable_of p ≡ false) × (talking_of p ≡ false) × (active_of p ≡ false) × (up_of p ≡ false)
@@ -219,10 +213,6 @@ asked_third Request.Unasked false b' a e f h = apart refl refl refl e
 asked_third Request.Preferred false true a e f h = apart refl refl refl e
 asked_third Request.Preferred false false a e f h = apart refl refl refl e
 asked_third Request.Required false b' a e f h = never refl h
-
-or_false : (a b : Bool) → (a || b) ≡ false → (a ≡ false) × (b ≡ false)
-or_false true b h = never refl h
-or_false false b h = (refl, h)
 
 lacking_up : (q : Request) (b b' : Bool) → (b ≡ true → b' ≡ true) → lacking_of q b ≡ false → lacking_of q b' ≡ false
 lacking_up Request.Unasked b b' f h = refl

@@ -1,13 +1,7 @@
 -- The note is that of the first row that applies.
 use Rattle.services.specs.declared.ByService.{ByService}
-use Prim.Native.Nat.{ℕ}
-use mathlib.Core.List.{List}
-use mathlib.Core.Bool.{Bool, true, false, cond, ◌&&◌, not, true≢false}
-use mathlib.Core.Logic.{◌⊎◌, inl, inr, ⊎_elim}
-use mathlib.Core.Path.{◌≡◌, refl, ◌∙◌}
-use native.Mathlib.Omega.{arith}
-use borrow.Author.Tests.{eqb-true, eqb-false}
-use lib.Dec.{eqb}
+use Rattle.std.proofs.Common.{ℕ, List, Bool, true, false, cond, ◌&&◌, not, true≢false, ◌⊎◌, inl, inr, ⊎_elim, ◌≡◌, refl, ◌∙◌, arith, eqb-true, eqb}
+use Rattle.std.proofs.lemmas.Bool.{eqb-false}
 use Rattle.logic.specs.First.{First}
 use Rattle.logic.proofs.Only.{only, exactly}
 use Rattle.flow_meter.specs.declared.passage.Passage.{Passage}
@@ -49,7 +43,7 @@ use Rattle.call_promises.specs.Notes.{Refused, Bare, limit_for, Lacking, LacksRe
 use Rattle.logic.proofs.Decide.{never, Decides, Denies, denied, via, either, neither, as_is, always}
 use Rattle.call_promises.proofs.Heard.{Bar, unsound, phase, range, Heard, through, barred, heard}
 use Rattle.call_promises.proofs.Phases.{requested}
-use Rattle.call_promises.proofs.Conditions.{in_force, has}
+use Rattle.call_promises.proofs.Conditions.{in_force, has, silence_no}
 use Rattle.call_promises.proofs.Seen.{Sight, absent, malformed, too_long, whole, sight}
 use Rattle.call_promises.proofs.Numbers.{answer_first}
 use Rattle.call_promises.proofs.Refusals.{answered_taken}
@@ -89,12 +83,12 @@ module _ (c : Call) (e : Event) (l : List ℕ) where
   heard_note : (a g : Bool) (r : Reply) {s : Reply} → Heard c a g r s → First (answer_rows c e l) (number_of s.answer) → (First (answer_rows c e l) (number_of r.answer) → First (note_rows c e l) (note_number_of r.note)) → First (note_rows c e l) (note_number_of s.note)
   unfolding refused_of
   heard_note a g r (through _ _ _) f k = k f
-  heard_note a g r (barred x) f k = let b = bar_numbers x in inl ((_, f, b.0, b.1), refl)
+  heard_note a g r (barred _ x) f k = let b = bar_numbers x in inl ((_, f, b.0, b.1), refl)
 
   heard_clear : (a g : Bool) (r : Reply) {s : Reply} → Heard c a g r s → r.note ≡ Note.Clear → s.note ≡ Note.Clear
   unfolding refused_of
   heard_clear a g r (through _ _ _) h = h
-  heard_clear a g r (barred x) h = refl
+  heard_clear a g r (barred _ x) h = refl
 
 -- a message that stops, or that goes on without service 1
 stops : (a b : Bool) {P Q : Type 0} → Decides a P → Decides b Q → Denies (not a && b) (P ⊎ (Q → ⊥))
@@ -202,9 +196,6 @@ alerting_carries c a =
     (either _ _ (either _ _ (fails c.standings.one a.one) (fails c.standings.two a.two)) (as_is false)))
     (due_comes true c.standings.one a.one (record { so = λ _. tt; back = λ _. refl }))
 
-unanswered : Given.Silent ≡ Given.Accepted → ⊥
-unanswered e = let z : ◌≡◌ {A = ℕ} 0 1 = cc in omega arith
-
 pub connect_carries : (c : Call) (a : ByService Given) → Denies (carries_of c.standings.one (connect_fates_of (not (requested_of c.phase)) c.standings a)) (NotCarried c (Event.Connect a))
 unfolding carries_of connect_fates_of failed_of
 connect_carries c a =
@@ -212,7 +203,7 @@ connect_carries c a =
     stops _ _
     (via
     (⊎_elim (⊎_elim (λ x. inl (x.0, inl x.1)) (λ x. inl (x.0, inr x.1.0))) (λ x. inr x))
-    (⊎_elim (λ x. inl (⊎_elim (λ y. inl (x.0, y)) (λ y. inr (x.0, (y, unanswered))) x.1)) (λ x. inr x))
+    (⊎_elim (λ x. inl (⊎_elim (λ y. inl (x.0, y)) (λ y. inr (x.0, (y, silence_no))) x.1)) (λ x. inr x))
     (either _ _
     (either _ _ (due_fails _ c.standings.one a.one r) (due_fails _ c.standings.two Given.Silent r))
     (fails c.standings.three a.three)))

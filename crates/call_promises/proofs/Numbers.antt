@@ -1,13 +1,5 @@
 -- The number of an answer is that of the first row that applies.
-use Prim.Native.Nat.{ℕ, ◌≤◌}
-use mathlib.Core.List.{List}
-use mathlib.Core.Bool.{Bool, true, false, ◌&&◌, ◌||◌, not, true≢false}
-use mathlib.Core.Logic.{◌⊎◌, inl, inr, ⊎_elim}
-use mathlib.Core.Path.{◌≡◌, refl}
-use native.Mathlib.Omega.{arith}
-use borrow.Author.Tests.{ltb-true, ltb-false}
-use lib.ListN.{length}
-use lib.Dec.{ltb}
+use Rattle.std.proofs.Common.{ℕ, ◌≤◌, List, Bool, true, false, ◌&&◌, ◌||◌, not, true≢false, ◌⊎◌, inl, inr, ⊎_elim, ◌≡◌, refl, arith, ltb-true, ltb-false, length, ltb}
 use Rattle.logic.specs.First.{Rows, end, row, First}
 use Rattle.logic.proofs.Only.{exactly}
 use Rattle.flow_meter.specs.declared.Meter.{Meter}
@@ -29,7 +21,6 @@ use Rattle.sent.specs.Side.{peer_of}
 use Rattle.call.specs.Answering.{alerting_of, connect_of}
 use Rattle.call.specs.Disconnect.{passed_on_of, disconnect_of, ends_of, release_complete_of}
 use Rattle.call.specs.Facility.{facility_verdict_of, passes_facility_of, facility_of}
-use Rattle.flow_meter.specs.CallMeters.{meter_of}
 use Rattle.call.specs.Information.{information_passage_of, carried_of, with_element_of, information_of}
 use Rattle.call.specs.Reply.{bar_of, refused_of, heard_of, reply_of}
 use Rattle.call.specs.Setup.{proceeds_of, setup_of}
@@ -41,7 +32,7 @@ use Rattle.call_promises.specs.Numbers.{NotAnEvent, Allowed, OutOfRange, Informs
 use Rattle.logic.proofs.Decide.{never, by_cond, Decides, Denies, denied, via, both, either, neither, as_is, always, over}
 use Rattle.call_promises.proofs.Phases.{fresh, requested, connectable, talking, active, up, live}
 use Rattle.call_promises.proofs.Ranges.{unsound, reference_range, rights_range}
-use Rattle.call_promises.proofs.Conditions.{in_force, has, serves_two, serves_three}
+use Rattle.call_promises.proofs.Conditions.{in_force, has, serves_two, serves_three, same_meter}
 use Rattle.call_promises.proofs.Seen.{Sight, absent, malformed, too_long, whole, sight}
 use Rattle.call_promises.proofs.Refusals.{answered_taken}
 
@@ -145,10 +136,6 @@ element_rows c l limit r rest (absent z) f = inl ((λ x. let h = x.0.least in om
 element_rows c l limit r rest (malformed z w) f = inl ((λ x. w x.0), refl)
 element_rows c l limit r rest (too_long z w h) f = inl ((λ x. let k = x.1 in omega arith), refl)
 element_rows c l limit r rest (whole z w h) f = inr ((λ x. x (w, h)), f)
-
-same_meter : (c : Call) (side : Side) → meter_of c.meters side ≡ meter_from c side
-same_meter c Side.Calling = refl
-same_meter c Side.Called = refl
 
 module _ (c : Call) (side : Side) (more : Bool) (l : List ℕ) where
   abbrev rest_rows : Rows

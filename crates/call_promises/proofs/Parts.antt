@@ -1,19 +1,11 @@
 -- The parts of a step, each with the paper's condition for it: what lets an event through, what rides with a message,
 -- what the answers make of a service, what a message meets in its meter, what FACILITY is answered.
 use Rattle.services.specs.declared.ByService.{ByService}
-use Prim.Native.Nat.{ℕ, ◌≤◌}
-use mathlib.Core.List.{List}
-use mathlib.Core.Bool.{Bool, true, false, cond, ◌||◌, not}
-use mathlib.Core.Logic.{inl, inr, ⊎_elim}
-use mathlib.Core.Path.{◌≡◌, refl, sym, ◌∙◌, ap}
-use native.Mathlib.Omega.{arith}
-use borrow.Author.Tests.{ltb-true, ltb-false}
-use lib.Dec.{ltb, eqb}
+use Rattle.std.proofs.Common.{ℕ, ◌≤◌, List, Bool, true, false, cond, ◌||◌, not, inl, inr, ⊎_elim, ◌≡◌, refl, sym, ◌∙◌, ap, arith, ltb-true, ltb-false, ltb, eqb}
 use Rattle.rights.specs.declared.Service.{Service}
 use Rattle.services.specs.declared.Given.{Given}
 use Rattle.services.specs.declared.Said.{Said}
 use Rattle.services.specs.declared.Standing.{Standing}
-use Rattle.user_element.specs.declared.Note.{Note}
 use Rattle.user_element.specs.declared.Seen.{Seen}
 use Rattle.user_element.specs.Element.{goes_out_of}
 use Rattle.answer.specs.declared.Answer.{Answer}
@@ -29,13 +21,10 @@ use Rattle.answering_rules.specs.Effects.{settled_of, told_of, declined_of, fail
 use Rattle.flow_meter.specs.declared.Meter.{Meter}
 use Rattle.flow_meter.specs.declared.passage.Passage.{Passage}
 use Rattle.flow_meter.specs.Passage.{counted_of, paid_of, marked_of, under_three_of, passage_of}
-use Rattle.flow_meter.specs.CallMeters.{meter_of}
 use Rattle.services.specs.Standing.{awaits_of}
 use Rattle.call.specs.declared.Call.{Call}
-use Rattle.call.specs.declared.reply.Reply.{Reply}
 use Rattle.call.specs.Facility.{facility_verdict_of}
 use Rattle.call.specs.Information.{information_passage_of}
-use Rattle.call.specs.Reply.{bar_of, refused_of, heard_of}
 use Rattle.call.specs.Sound.{sound_of}
 use Rattle.logic.specs.First.{end, row, First}
 use Rattle.logic.proofs.Decide.{never, by_cond, Decides, Denies}
@@ -44,27 +33,11 @@ use Rattle.call_promises.specs.Numbers.{Allowed, OutOfRange, ServesTwo, ServesTh
 use Rattle.call_promises.specs.Notes.{Open, NotCarried, limit_for}
 use Rattle.call_promises.specs.Services.{standing_for}
 use Rattle.call_promises.specs.Sends.{Hears, Flags, Rides, Due, ringing, third, first, second, Counts, Settles, accepted, declined, kept, FailsAt, TurnedDown, turned, unturned, Intact, CountPays, CreditServes, CreditPays, FirstDropped, Agreed}
-use Rattle.call_promises.proofs.Heard.{Bar, unsound, phase, range}
-use Rattle.call_promises.proofs.Conditions.{serves_two, serves_three}
+use Rattle.call_promises.proofs.Conditions.{serves_two, serves_three, same_meter, silence_no}
 use Rattle.call_promises.proofs.Numbers.{say_rows}
 use Rattle.call_promises.proofs.Seen.{Sight, absent, malformed, too_long, whole}
 
--- ---- an event let through, or not
-
-pub data Let (c : Call) (a g : Bool) (r : Reply) : Reply → Type 0 where
-  through : sound_of c ≡ true → a ≡ true → g ≡ true → Let c a g r r
-  stopped : {x : Answer} → (sound_of c ≡ true → a ≡ true → g ≡ true → ⊥) → Bar x → Let c a g r (refused_of c x Note.Clear)
-
-module _ (c : Call) (r : Reply) where
-  lets : (s a g : Bool) → sound_of c ≡ s → Let c a g r (heard_of c (bar_of c a g) r)
-  unfolding heard_of bar_of
-  lets true true true e = rw e (through e refl refl)
-  lets true true false e = rw e (stopped (λ _ _ h. never h refl) range)
-  lets true false g e = rw e (stopped (λ _ h _. never h refl) phase)
-  lets false a g e = rw e (stopped (λ h _ _. never h e) unsound)
-
-pub let_through : (c : Call) (a g : Bool) (r : Reply) → Let c a g r (heard_of c (bar_of c a g) r)
-let_through c a g r = lets c r (sound_of c) a g refl
+-- ---- an event heard, or not
 
 -- the tests say that the event is heard
 pub record Tests (c : Call) (e : Event) (a g : Bool) : Type 0 where
@@ -201,9 +174,6 @@ data Decision (s : Standing) (g : Given) : Fate → Type 0 where
 
 neither_open : (s : Standing) → (s ≡ Standing.Preferred → ⊥) → (s ≡ Standing.Required → ⊥) → Open s → ⊥
 neither_open s a b = ⊎_elim a b
-
-pub silence_no : Given.Silent ≡ Given.Accepted → ⊥
-silence_no e = let z : ◌≡◌ {A = ℕ} 0 1 = cc e in omega arith
 
 rejection_no : Given.Rejected ≡ Given.Accepted → ⊥
 rejection_no e = let z : ◌≡◌ {A = ℕ} 0 1 = cc e in omega arith
@@ -362,12 +332,9 @@ module _ (c : Call) (l : List ℕ) (side : Side) (i : Intact c l) where
       (λ t.
       unserved (λ x. never (d.back x.serves) refl) (λ x. never (g.back x.credit.serves) t) (λ x. never (g.back x.credit.serves) t))
 
-  same_meter : meter_of c.meters side ≡ meter_from c side
-  same_meter = elim side [ Side.Calling ↦ refl | Side.Called ↦ refl ]
-
   pub met : Met c l side own (information_passage_of c side)
   unfolding information_passage_of
-  met = rw same_meter (met_by _ _ (serves_two c side) (serves_three c))
+  met = rw (same_meter c side) (met_by _ _ (serves_two c side) (serves_three c))
 
 -- a message is paid for in one way only
 pub paid_once : {c : Call} {l : List ℕ} {side : Side} → CountPays c l side → CreditServes c l side → ⊥

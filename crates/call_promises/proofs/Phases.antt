@@ -1,7 +1,5 @@
 -- Each test of a phase decides which phases it is.
-use mathlib.Core.Bool.{true}
-use mathlib.Core.Logic.{◌⊎◌, inl, inr, ⊎_elim}
-use mathlib.Core.Path.{◌≡◌, refl}
+use Rattle.std.proofs.Common.{true, ◌⊎◌, inl, inr, ⊎_elim, ◌≡◌, refl}
 use Rattle.phases.specs.declared.Phase.{Phase}
 use Rattle.phases.specs.Phase.{fresh_of, requested_of, connectable_of, talking_of, active_of, up_of, live_of}
 use Rattle.call_promises.specs.Ranges.{Up, Live}

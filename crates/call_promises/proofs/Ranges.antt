@@ -1,7 +1,5 @@
 -- The tests of a record decide the ranges of its fields, and 25.
-use Prim.Native.Nat.{ℕ}
-use mathlib.Core.Bool.{Bool, true, false}
-use mathlib.Core.Path.{◌≡◌, refl}
+use Rattle.std.proofs.Common.{ℕ, Bool, true, false, ◌≡◌, refl}
 use Rattle.flow_meter.specs.declared.Meter.{Meter}
 use Rattle.rights.specs.declared.Rights.{Rights}
 use Rattle.call.specs.declared.Call.{Call}

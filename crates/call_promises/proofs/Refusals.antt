@@ -1,14 +1,7 @@
 -- A refusal leaves the record and sends nothing, but for 14 and 16.
 use Rattle.services.specs.declared.ByService.{ByService}
 use Rattle.answering_rules.specs.declared.Fate.{Fate}
-use Prim.Native.Nat.{ℕ}
-use mathlib.Core.List.{List}
-use mathlib.Core.Bool.{Bool, true, false, ◌&&◌}
-use mathlib.Core.Logic.{◌⊎◌, inl, inr}
-use mathlib.Core.Path.{◌≡◌, refl}
-use native.Mathlib.Omega.{arith}
-use borrow.Author.Tests.{ltb-false}
-use lib.Dec.{ltb}
+use Rattle.std.proofs.Common.{ℕ, List, Bool, true, false, ◌&&◌, ◌⊎◌, inl, inr, ◌≡◌, refl, arith, ltb-false, ltb}
 use Rattle.flow_meter.specs.declared.passage.Passage.{Passage}
 use Rattle.user_element.specs.declared.Note.{Note}
 use Rattle.user_element.specs.declared.Seen.{Seen}
@@ -66,7 +59,7 @@ module _ (c : Call) (e : Event) where
 
   heard_fair : (a g : Bool) (r : Reply) {s : Reply} → Heard c a g r s → Fair c e r → Fair c e s
   heard_fair a g r (through _ _ _) f = f
-  heard_fair a g r (barred x) f = bar_fair x
+  heard_fair a g r (barred _ x) f = bar_fair x
 
 outcome_taken : (c : Call) (kind : Kind) (next : Phase) (f : ByService Fate) (seen : Seen) (x : Bool) → (answering_of c kind next f seen x).answer ≡ Answer.Taken
 unfolding goes_on_of clears_of

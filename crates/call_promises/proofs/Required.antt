@@ -1,11 +1,6 @@
 -- A call that is Active has its required services.
 use Rattle.services.specs.declared.ByService.{ByService}
-use Prim.Native.Nat.{ℕ}
-use mathlib.Core.List.{List, [], ◌∷◌, ◌++◌}
-use mathlib.Core.Bool.{Bool, true, false, ◌||◌, not}
-use mathlib.Core.Logic.{inl, inr, ⊎_elim}
-use mathlib.Core.Path.{◌≡◌, refl, sym}
-use native.Mathlib.Omega.{arith}
+use Rattle.std.proofs.Common.{ℕ, List, [], ◌∷◌, ◌++◌, Bool, true, false, ◌||◌, not, inl, inr, ⊎_elim, ◌≡◌, refl, sym, arith}
 use Rattle.user_element.specs.declared.Seen.{Seen}
 use Rattle.rights.specs.declared.Rights.{Rights}
 use Rattle.rights.specs.declared.Service.{Service}
@@ -43,7 +38,7 @@ use Rattle.call_promises.specs.Services.{request_for, standing_for, Taken, Requi
 use Rattle.logic.proofs.Decide.{never, by_cond}
 use Rattle.call_promises.proofs.Heard.{bar_not_taken, Heard, through, barred, heard}
 use Rattle.call_promises.proofs.Phases.{fresh, requested, connectable, active}
-use Rattle.call_promises.proofs.Conditions.{has}
+use Rattle.call_promises.proofs.Conditions.{has, or_false}
 
 -- a run goes on from where it came to
 pub run_append : (c : Call) (a b : List Offered) → run_of step_of c (a ++ b) ≡ run_of step_of (run_of step_of c a) b
@@ -71,10 +66,6 @@ moved : (k : Service) (s : Standing) {p q : Phase} → p ≡ q → Due k p s →
 moved k s e w = rw e at w
 
 -- SETUP
-or_false : (a b : Bool) → (a || b) ≡ false → (a ≡ false) × (b ≡ false)
-or_false true b h = never refl h
-or_false false b h = (refl, h)
-
 abbrev lack_of : Rights → ByService Request → Service → Bool
 lack_of rights q k = lacking_of (request_for q k) (has_of rights k)
 
@@ -158,7 +149,7 @@ module _ (k : Service) (c : Call) where
   heard_due : (a g : Bool) (r : Reply) {s : Reply} → Heard c a g r s → DueIn k c → (a ≡ true → DueIn k r.call) → DueIn k s.call
   unfolding refused_of
   heard_due a g r (through _ h _) w f = f h
-  heard_due a g r (barred x) w f = w
+  heard_due a g r (barred _ x) w f = w
 
 facility_due : (k : Service) (c : Call) (side : Side) (what : What) → InForce (standing_for c.standings k) → InForce (standing_for (facility_call_of c side what).standings k)
 unfolding facility_call_of
@@ -216,7 +207,7 @@ run_due k c (o ∷ os) w = run_due k (step_of c o.event o.element).call os (step
 when_taken : (P : Reply → Type 0) (c : Call) (a g : Bool) (r : Reply) {s : Reply} → Heard c a g r s → number_of s.answer ≡ 0 → P r → P s
 unfolding refused_of
 when_taken P c a g r (through _ _ _) t w = w
-when_taken P c a g r (barred x) t w = absurd (bar_not_taken x t)
+when_taken P c a g r (barred _ x) t w = absurd (bar_not_taken x t)
 
 requires_due : (k : Service) (c : Call) (e : Event) (l : List ℕ) → Taken step_of c e l → Requires k e l → DueIn k (step_of c e l).call
 unfolding setup_of

@@ -1,10 +1,6 @@
 -- What an element is seen to be.
-use Prim.Native.Nat.{ℕ, ◌<◌, ◌≤◌}
-use mathlib.Core.List.{List}
-use mathlib.Core.Path.{◌≡◌}
-use borrow.Author.Tests.{leb-true, leb-false, eqb-true, eqb-false}
-use lib.ListN.{length, get_or}
-use lib.Dec.{leb, eqb}
+use Rattle.std.proofs.Common.{ℕ, ◌<◌, ◌≤◌, List, ◌≡◌, leb-true, leb-false, eqb-true, length, get_or, leb, eqb}
+use Rattle.std.proofs.lemmas.Bool.{eqb-false}
 use Rattle.user_element.specs.declared.Seen.{Seen}
 use Rattle.user_element.specs.Element.{well_formed_of, seen_of}
 use Rattle.call_promises.specs.Numbers.{WellFormed}

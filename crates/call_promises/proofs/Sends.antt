@@ -1,13 +1,7 @@
 -- What each user is sent is what the sentences say, and nothing else.
-use Rattle.std.specs.Prelude.{Option, Some, None}
+use Rattle.std.proofs.Common.{Option, Some, None, ℕ, List, Bool, true, false, ◌&&◌, ◌||◌, not, inl, inr, ⊎_elim, ◌≡◌, refl, sym, ◌∙◌, ap, subst, arith}
 use Rattle.services.specs.declared.ByService.{ByService}
 use Rattle.answering_rules.specs.declared.Fate.{Fate}
-use Prim.Native.Nat.{ℕ}
-use mathlib.Core.List.{List}
-use mathlib.Core.Bool.{Bool, true, false, ◌&&◌, ◌||◌, not}
-use mathlib.Core.Logic.{inl, inr, ⊎_elim}
-use mathlib.Core.Path.{◌≡◌, refl, sym, ◌∙◌, ap, subst}
-use native.Mathlib.Omega.{arith}
 use Rattle.rights.specs.declared.Rights.{Rights}
 use Rattle.rights.specs.declared.Service.{Service}
 use Rattle.rights.specs.Rights.{has_of}
@@ -51,8 +45,7 @@ use Rattle.call.specs.Setup.{proceeds_of, setup_of}
 use Rattle.call.specs.Sound.{sound_of}
 use Rattle.call.specs.Step.{not_an_event_of, step_of}
 use Rattle.call.specs.Tick.{runs_of, passes_tick_of, tick_of}
-use Rattle.logic.proofs.Decide.{never, by_cond, Decides, Denies, both, either, as_is, always, over}
-use Rattle.logic.proofs.Decide.{denied as denies}
+use Rattle.logic.proofs.Decide.{never, by_cond, Decides, Denies, both, either, as_is, always, over, denied as denies}
 use Rattle.call_promises.specs.Numbers.{Allowed, Has, ServesThree, AskedRequired, NotGranted, meter_from, other, tells}
 use Rattle.call_promises.specs.Notes.{LacksRequired, Open, NotCarried, limit_for}
 use Rattle.call_promises.specs.Refusals.{sent_to}
@@ -64,7 +57,8 @@ use Rattle.call_promises.proofs.Notes.{lacks, setup_carries, alerting_carries, c
 use Rattle.call_promises.proofs.Phases.{fresh, requested, connectable, talking, active, up, live}
 use Rattle.call_promises.proofs.Ranges.{unsound, reference_range, rights_range}
 use Rattle.call_promises.proofs.Seen.{Sight, absent, malformed, too_long, whole, sight}
-use Rattle.call_promises.proofs.Parts.{Let, through, stopped, let_through, Tests, tests, rides, one_flag, View, alerting_one, alerting_two, alerting_three, connect_one, connect_two, connect_three, settles_is, settles_one, turned_is, turned_one, failure, Outcome, sound, fails, outcome, Met, counted, paid, marked, spent, unserved, met, paid_once, left_once, Verdict, agreed, ungranted, neither, verdict, awaits}
+use Rattle.call_promises.proofs.Heard.{Heard, through, barred, heard}
+use Rattle.call_promises.proofs.Parts.{Tests, tests, rides, one_flag, View, alerting_one, alerting_two, alerting_three, connect_one, connect_two, connect_three, settles_is, settles_one, turned_is, turned_one, failure, Outcome, sound, fails, outcome, Met, counted, paid, marked, spent, unserved, met, paid_once, left_once, Verdict, agreed, ungranted, neither, verdict, awaits}
 
 -- ---- a message and the sentence that sends it
 
@@ -86,12 +80,12 @@ unheard : (c : Call) (e : Event) (l : List ℕ) (side : Side) (a g : Bool) → (
 unheard c e l side a g n x =
     told_none {P = λ m. Hears c e × Sends c l e side m} refl (λ k y. let t = x.back y.0 in n t.0 t.1 t.2)
 
--- an event that is let through sends what its reply sends, and one that is stopped nothing
-let_told : (c : Call) (e : Event) (l : List ℕ) (side : Side) (a g : Bool) (r : Reply) {s : Reply} → Let c a g r s → Tests c e a g → IsWhatIsSent (Sends c l e side) (sent_to r side) → IsWhatIsSent (λ m. Hears c e × Sends c l e side m) (sent_to s side)
+-- an event that is heard sends what its reply sends, and one that is barred nothing
+heard_told : (c : Call) (e : Event) (l : List ℕ) (side : Side) (a g : Bool) (r : Reply) {s : Reply} → Heard c a g r s → Tests c e a g → IsWhatIsSent (Sends c l e side) (sent_to r side) → IsWhatIsSent (λ m. Hears c e × Sends c l e side m) (sent_to s side)
 unfolding refused_of
-let_told c e l side a g r (through p q t) x f m = ((λ h. (x.so p q t, (f m).0 h)), (λ y. (f m).1 y.1))
-let_told c e l Side.Calling a g r (stopped n b) x f m = unheard c e l Side.Calling a g n x m
-let_told c e l Side.Called a g r (stopped n b) x f m = unheard c e l Side.Called a g n x m
+heard_told c e l side a g r (through p q t) x f m = ((λ h. (x.so p q t, (f m).0 h)), (λ y. (f m).1 y.1))
+heard_told c e l Side.Calling a g r (barred n b) x f m = unheard c e l Side.Calling a g n x m
+heard_told c e l Side.Called a g r (barred n b) x f m = unheard c e l Side.Called a g n x m
 
 -- a reply to one side's event
 reply_told : (P : Side → Message → Type 0) (side : Side) (d : Call) (a : Answer) (note : Note) (back far : Option Message) (x : Option Service) → IsWhatIsSent (P side) back → IsWhatIsSent (P (other side)) far → (to : Side) → IsWhatIsSent (P to) (sent_to (reply_of side d a note back far x) to)
@@ -554,22 +548,22 @@ no_event_lem c e l side n = none_told c e l side n _ _
 pub sends : SendsExactly step_of
 unfolding setup_of alerting_of connect_of information_of facility_of disconnect_of release_complete_of tick_of
 sends c (Event.Setup n r q) l side =
-    let_told c _ l side _ _ _ (let_through c _ _ _)
+    heard_told c _ l side _ _ _ (heard c _ _ _)
     (tests c _ _ _ (unsound c) (fresh c.phase) (denies _ (both _ _ (reference_range n) (rights_range r)))) (setup_told c n r q l side)
 sends c (Event.Alerting a) l side =
-    let_told c _ l side _ _ _ (let_through c _ _ _) (tests c _ _ _ (unsound c) (requested c.phase) always) (alerting_told c a l side)
+    heard_told c _ l side _ _ _ (heard c _ _ _) (tests c _ _ _ (unsound c) (requested c.phase) always) (alerting_told c a l side)
 sends c (Event.Connect a) l side =
-    let_told c _ l side _ _ _ (let_through c _ _ _) (tests c _ _ _ (unsound c) (connectable c.phase) always) (connect_told c a l side)
+    heard_told c _ l side _ _ _ (heard c _ _ _) (tests c _ _ _ (unsound c) (connectable c.phase) always) (connect_told c a l side)
 sends c (Event.Information from more) l side =
-    let_told c _ l side _ _ _ (let_through c _ _ _) (tests c _ _ _ (unsound c) (talking c.phase) always)
+    heard_told c _ l side _ _ _ (heard c _ _ _) (tests c _ _ _ (unsound c) (talking c.phase) always)
     (information_told c l from more (sight l c.rights.limit) side)
 sends c (Event.Facility from what) l side =
-    let_told c _ l side _ _ _ (let_through c _ _ _) (tests c _ _ _ (unsound c) (active c.phase) always) (facility_told c l from what side)
+    heard_told c _ l side _ _ _ (heard c _ _ _) (tests c _ _ _ (unsound c) (active c.phase) always) (facility_told c l from what side)
 sends c (Event.Disconnect from cause a) l side =
-    let_told c _ l side _ _ _ (let_through c _ _ _) (tests c _ _ _ (unsound c) (up c.phase) (over cause 127)) (disconnect_told c l from cause a side)
+    heard_told c _ l side _ _ _ (heard c _ _ _) (tests c _ _ _ (unsound c) (up c.phase) (over cause 127)) (disconnect_told c l from cause a side)
 sends c (Event.ReleaseComplete from) l side =
-    let_told c _ l side _ _ _ (let_through c _ _ _) (tests c _ _ _ (unsound c) (live c.phase) always) (release_told c l from side)
+    heard_told c _ l side _ _ _ (heard c _ _ _) (tests c _ _ _ (unsound c) (live c.phase) always) (release_told c l from side)
 sends c Event.Tick l side =
-    let_told c _ l side _ _ _ (let_through c _ _ _) (tests c _ _ _ (unsound c) (live c.phase) always) (tick_told c l side)
+    heard_told c _ l side _ _ _ (heard c _ _ _) (tests c _ _ _ (unsound c) (live c.phase) always) (tick_told c l side)
 sends c Event.CallProceeding l side = no_event_lem c _ l side (λ x. x)
 sends c Event.CongestionControl l side = no_event_lem c _ l side (λ x. x)

@@ -1,10 +1,5 @@
 -- Every run from a fresh record stays in range.
-use Prim.Native.Nat.{ℕ}
-use mathlib.Core.List.{List, [], ◌∷◌}
-use mathlib.Core.Bool.{Bool, true}
-use mathlib.Core.Logic.{inl, inr, ⊎_elim}
-use mathlib.Core.Path.{◌≡◌, refl}
-use native.Mathlib.Omega.{arith}
+use Rattle.std.proofs.Common.{ℕ, List, [], ◌∷◌, Bool, true, inl, inr, ⊎_elim, ◌≡◌, refl, arith}
 use Rattle.logic.specs.First.{Rows, end, row, First}
 use Rattle.phases.specs.declared.Phase.{Phase}
 use Rattle.call.specs.declared.Call.{Call}
@@ -37,7 +32,7 @@ module _ (c : Call) (a g : Bool) (r : Reply) where
   heard_in : {s : Reply} → Heard c a g r s → Good c → (sound_of c ≡ true → a ≡ true → g ≡ true → Good r.call) → Good s.call
   unfolding refused_of
   heard_in (through s h k) w f = f s h k
-  heard_in (barred x) w f = w
+  heard_in (barred _ x) w f = w
 
   -- an event that only a live record takes
   live_in : Good c → (a ≡ true → Live c.phase) → Follows c r.call → Good (heard_of c (bar_of c a g) r).call

@@ -1,10 +1,9 @@
 -- Which service carries the event's element, exactly. A constructor for each sentence of the paper; what none of them
 -- has carried, nobody carries. Nothing here names a function by which the step makes a message.
-use Rattle.std.specs.Prelude.{Option, Some}
+use Rattle.std.specs.Prelude.{Option, Some, ℕ, List, Bool, ◌≡◌}
 use Rattle.services.specs.declared.ByService.{ByService}
 use Rattle.services.specs.declared.Request.{Request}
 use Rattle.services.specs.declared.Given.{Given}
-use Rattle.std.specs.Prelude.{ℕ, List, Bool, ◌≡◌}
 use Rattle.rights.specs.declared.Rights.{Rights}
 use Rattle.rights.specs.declared.Service.{Service}
 use Rattle.sent.specs.declared.side.Side.{Side}

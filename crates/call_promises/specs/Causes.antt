@@ -1,10 +1,9 @@
 -- Causes alone: which cause stands in which message. All of it follows from `Sends`, for whatever core keeps that, and
 -- is put together here for those who show causes to people.
-use Rattle.std.specs.Prelude.{Option, Some, None}
+use Rattle.std.specs.Prelude.{Option, Some, None, ℕ, List, Bool, ◌≡◌}
 use Rattle.services.specs.declared.ByService.{ByService}
 use Rattle.services.specs.declared.Request.{Request}
 use Rattle.services.specs.declared.Given.{Given}
-use Rattle.std.specs.Prelude.{ℕ, List, Bool, ◌≡◌}
 use Rattle.rights.specs.declared.Rights.{Rights}
 use Rattle.facility_rules.specs.declared.What.{What}
 use Rattle.message_types.specs.declared.Kind.{Kind}

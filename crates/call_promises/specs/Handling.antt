@@ -1,9 +1,8 @@
 -- What users are handed: "user information goes out unaltered and only under a service in force in that phase or, in
 -- SETUP, still asked for".
-use Rattle.std.specs.Prelude.{Option, Some, None}
+use Rattle.std.specs.Prelude.{Option, Some, None, ℕ, ◌<◌, ◌≤◌, List, [], ◌⊎◌, Bool, false, cond, ◌≡◌, length}
 use Rattle.services.specs.declared.ByService.{ByService}
 use Rattle.services.specs.declared.Given.{Given}
-use Rattle.std.specs.Prelude.{ℕ, ◌<◌, ◌≤◌, List, [], ◌⊎◌, Bool, false, cond, ◌≡◌, length}
 use Rattle.rights.specs.declared.Rights.{Rights}
 use Rattle.rights.specs.declared.Service.{Service}
 use Rattle.services.specs.declared.Request.{Request}

@@ -1,8 +1,7 @@
 -- The meter that a host lends and the two that a call record holds come to the same: `spend` and `tick` give a lent
 -- meter what USER INFORMATION and the tick give the meter of a call.
-use Rattle.std.specs.Prelude.{Option, Some}
+use Rattle.std.specs.Prelude.{Option, Some, ℕ, ◌≤◌, List, [], ◌∷◌, Bool, true, false, ◌↔◌, ◌≡◌, length}
 use Rattle.sent.specs.declared.Message.{Message}
-use Rattle.std.specs.Prelude.{ℕ, ◌≤◌, List, [], ◌∷◌, Bool, true, false, ◌↔◌, ◌≡◌, length}
 use Rattle.flow_meter.specs.declared.Meter.{Meter}
 use Rattle.flow_meter.specs.declared.lent.Spent.{Spent}
 use Rattle.flow_meter.specs.declared.lent.Ticked.{Ticked}
@@ -29,10 +28,10 @@ pub record ToldServices (c : Call) (side : Side) (two three : Bool) : Type 0 whe
 -- The reply to a side's message, beside what `spend` makes of a meter m. "sets that direction's mark and sends not
 -- ready, cause 43, to its sender". The meter n of the other direction stays.
 pub record SpendsAlike (m n : Meter) (burst : ℕ) (two three : Bool) (side : Side) (r : Reply) : Type 0 where
-  pub number : number_of r.answer ≡ spent_number (spends_of m burst two three).spent
+  pub number : number_of r.answer ≡ spent_number (spends_of m burst two three).answer
   pub meter : meter_from r.call side ≡ (spends_of m burst two three).next
   pub stays : meter_from r.call (other side) ≡ n
-  pub marked : (spends_of m burst two three).spent ≡ Spent.Marked ↔ sent_to r side ≡ not_ready
+  pub marked : (spends_of m burst two three).answer ≡ Spent.Marked ↔ sent_to r side ≡ not_ready
 
 -- LENT SPENDING. A message with an element in order, in a phase that allows it, of a record in range: its number, and
 -- the meter that it leaves of its side, are those of `spend` on a lent meter that holds the same; the other side's
@@ -59,9 +58,9 @@ ready =
 
 -- the reply to a tick, beside what `tick` makes of a meter m
 pub record TicksAlike (m : Meter) (burst refill : ℕ) (side : Side) (r : Reply) : Type 0 where
-  pub number : number_of r.answer ≡ ticked_number (ticks_of m burst refill).ticked
+  pub number : number_of r.answer ≡ ticked_number (ticks_of m burst refill).answer
   pub meter : meter_from r.call side ≡ (ticks_of m burst refill).next
-  pub cleared : (ticks_of m burst refill).ticked ≡ Ticked.Ready ↔ sent_to r side ≡ ready
+  pub cleared : (ticks_of m burst refill).answer ≡ Ticked.Ready ↔ sent_to r side ≡ ready
 
 -- LENT TICKING. While service 3 is in force in Active, a tick leaves the meter of each side as `tick` leaves a lent
 -- one, and sends ready to the side exactly if `tick` says so.

@@ -1,10 +1,9 @@
 -- What a refusal leaves, and what it sends.
-use Rattle.std.specs.Prelude.{Option, Some, None, Bool}
+use Rattle.std.specs.Prelude.{Option, Some, None, Bool, ℕ, List, ◌⊎◌, true, false, ◌≡◌}
 use Rattle.sent.specs.declared.Message.{Message}
 use Rattle.services.specs.declared.ByService.{ByService}
 use Rattle.services.specs.declared.Standing.{Standing}
 use Rattle.sent.specs.declared.side.BySide.{BySide}
-use Rattle.std.specs.Prelude.{ℕ, List, ◌⊎◌, true, false, ◌≡◌}
 use Rattle.flow_meter.specs.declared.Meter.{Meter}
 use Rattle.services.specs.declared.Said.{Said}
 use Rattle.phases.specs.declared.Phase.{Phase}

@@ -1,9 +1,8 @@
 -- What each user is sent, exactly: whether a message, and then its kind, its cause, what it says of each service, its
 -- level, More data, and whether the event's element goes in it. A constructor for each sentence of the paper; what no
 -- sentence sends is not sent. Nothing here names a function by which the step makes a message.
-use Rattle.std.specs.Prelude.{Option, Some, None}
+use Rattle.std.specs.Prelude.{Option, Some, None, ℕ, ◌<◌, ◌≤◌, List, ◌⊎◌, Bool, true, false, ◌≡◌, length}
 use Rattle.services.specs.declared.ByService.{ByService}
-use Rattle.std.specs.Prelude.{ℕ, ◌<◌, ◌≤◌, List, ◌⊎◌, Bool, true, false, ◌≡◌, length}
 use Rattle.rights.specs.declared.Rights.{Rights}
 use Rattle.rights.specs.declared.Service.{Service}
 use Rattle.services.specs.declared.Given.{Given}

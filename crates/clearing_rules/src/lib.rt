@@ -7,19 +7,12 @@ ghost use Rattle.clearing_rules.specs.Closing.{rejection_of, closing_said_of, cl
 use sent::side::Side;
 use services::{ByService, Given, Said, Standing, awaits};
 
-// No service is answered.
-const NO_ANSWERS: ByService<Given> = ByService {
-    one: Given::Silent,
-    two: Given::Silent,
-    three: Given::Silent,
-};
-
 // What the called side's DISCONNECT says of a service, where `waits` says whether the caller's request is open.
 fn rejection(waits: bool, g: Given) -> Said
     ensures { result ≡ rejection_of waits g }
 {
     match g {
-        Given::Rejected => { if waits { Said::ByUser } else { Said::Nothing } }
+        Given::Rejected if waits => Said::ByUser,
         _ => Said::Nothing,
     }
 }
@@ -29,13 +22,7 @@ fn closing_said(s: Standing, g: Given) -> Said
     ensures { result ≡ closing_said_of s g }
 {
     match g {
-        Given::Accepted => {
-            if awaits(s) {
-                Said::Accepted
-            } else {
-                Said::Nothing
-            }
-        }
+        Given::Accepted if awaits(s) => Said::Accepted,
         _ => rejection(awaits(s), g),
     }
 }
@@ -44,7 +31,7 @@ pub fn closing_standing(s: Standing, g: Given) -> Standing
     ensures { result ≡ closing_standing_of s g }
 {
     match g {
-        Given::Accepted => { if awaits(s) { Standing::InForce } else { s } }
+        Given::Accepted if awaits(s) => Standing::InForce,
         _ => s,
     }
 }
@@ -55,7 +42,7 @@ pub fn heard_answers(side: Side, a: ByService<Given>) -> ByService<Given>
     ensures { result ≡ heard_answers_of side a }
 {
     match side {
-        Side::Calling => NO_ANSWERS,
+        Side::Calling => ByService::same(Given::Silent),
         Side::Called => a,
     }
 }
@@ -69,15 +56,9 @@ pub fn closing_facilities(
 ) -> ByService<Said>
     ensures { result ≡ closing_facilities_of s asks a }
 {
-    let one = s.one;
-    let two = s.two;
-    let three = s.three;
-    let first = a.one;
-    let second = a.two;
-    let third = a.three;
     ByService {
-        one: closing_said(one, first),
-        two: rejection(awaits(two), second),
-        three: rejection(awaits(three) | asks, third),
+        one: closing_said(s.one, a.one),
+        two: rejection(awaits(s.two), a.two),
+        three: rejection(awaits(s.three) || asks, a.three),
     }
 }

@@ -1,7 +1,6 @@
 -- FACILITY about service 3: what it says, and what the asker and the other user are told.
-use Rattle.std.specs.Prelude.{Option, None}
+use Rattle.std.specs.Prelude.{Option, None, Bool, true, false}
 use Rattle.sent.specs.declared.Message.{Message}
-use Rattle.std.specs.Prelude.{Bool, true, false}
 use Rattle.services.specs.declared.Said.{Said}
 use Rattle.answer.specs.declared.Answer.{Answer}
 use Rattle.facility_rules.specs.declared.What.{What}

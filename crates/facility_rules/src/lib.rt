@@ -3,7 +3,7 @@
 #![tactic(auto)]
 
 ghost use Rattle.std.specs.Prelude.{◌≡◌};
-ghost use Rattle.facility_rules.specs.Asking.{nobody_asks, asks_of, with_ask_of, may_ask_of, to_answer_of, verdict_of, facility_asking_of, facility_three_of, facility_meters_of};
+ghost use Rattle.facility_rules.specs.Asking.{nobody_asks, may_ask_of, to_answer_of, verdict_of, facility_asking_of, facility_three_of, facility_meters_of};
 
 use answer::Answer;
 use flow_meter::Meter;
@@ -27,35 +27,7 @@ pub enum What {
 pub fn nobody_asks() -> BySide<bool>
     ensures { result ≡ nobody_asks }
 {
-    BySide {
-        calling: false,
-        called: false,
-    }
-}
-
-// Whether a side's own request is open.
-fn asks(a: BySide<bool>, side: Side) -> bool
-    ensures { result ≡ asks_of a side }
-{
-    match side {
-        Side::Calling => a.calling,
-        Side::Called => a.called,
-    }
-}
-
-fn with_ask(mut a: BySide<bool>, side: Side, b: bool) -> BySide<bool>
-    ensures { result ≡ with_ask_of a side b }
-{
-    match side {
-        Side::Calling => {
-            a.calling = b;
-            a
-        }
-        Side::Called => {
-            a.called = b;
-            a
-        }
-    }
+    BySide::same(false)
 }
 
 fn may_ask(r: Rights, side: Side) -> bool
@@ -63,7 +35,7 @@ fn may_ask(r: Rights, side: Side) -> bool
 {
     match side {
         Side::Calling => has(r, Service::Three),
-        Side::Called => has(r, Service::Three) & r.leave,
+        Side::Called => has(r, Service::Three) && r.leave,
     }
 }
 
@@ -80,14 +52,9 @@ pub fn verdict(r: Rights, a: BySide<bool>, force: bool, side: Side, what: What) 
     ensures { result ≡ verdict_of r a force side what }
 {
     match what {
-        What::Preferred => {
-            if may_ask(r, side) {
-                to_answer(force | asks(a, side))
-            } else {
-                Answer::NotGranted
-            }
-        }
-        What::Accept | What::Reject => to_answer(force | !asks(a, peer(side))),
+        What::Preferred if !may_ask(r, side) => Answer::NotGranted,
+        What::Preferred => to_answer(force || a.of(side)),
+        What::Accept | What::Reject => to_answer(force || !a.of(peer(side))),
         What::Required => Answer::AskedRequired,
     }
 }
@@ -97,9 +64,9 @@ pub fn facility_asking(a: BySide<bool>, side: Side, what: What) -> BySide<bool>
     ensures { result ≡ facility_asking_of a side what }
 {
     match what {
-        What::Preferred => with_ask(a, side, true),
+        What::Preferred => a.with(side, true),
         What::Accept => nobody_asks(),
-        What::Reject => with_ask(a, peer(side), false),
+        What::Reject => a.with(peer(side), false),
         What::Required => a,
     }
 }
@@ -108,10 +75,8 @@ pub fn facility_three(s: Standing, what: What) -> Standing
     ensures { result ≡ facility_three_of s what }
 {
     match what {
-        What::Preferred => s,
         What::Accept => Standing::InForce,
-        What::Reject => s,
-        What::Required => s,
+        What::Preferred | What::Reject | What::Required => s,
     }
 }
 
@@ -121,6 +86,6 @@ pub fn facility_meters(m: BySide<Meter>, burst: u16, what: What) -> BySide<Meter
 {
     match what {
         What::Accept => grants(m, burst),
-        _ => m,
+        What::Preferred | What::Reject | What::Required => m,
     }
 }

@@ -1,11 +1,11 @@
 // FACILITY about service 3: what it says, and what the asker and the other user are told.
-ghost use Rattle.std.specs.Prelude.{◌≡◌};
+ghost use Rattle.std.specs.Prelude.{◌≡◌, Some};
 ghost use Rattle.facility_rules.specs.Messages.{facility_said_of, about_three_of, to_asker_of, to_other_of};
 
 use crate::What;
 use answer::{Answer, taken};
 use message_types::Kind;
-use sent::{Message, saying};
+use sent::{Message, only_if, saying};
 use services::{ByService, Said};
 
 fn facility_said(what: What) -> Said
@@ -21,16 +21,15 @@ fn facility_said(what: What) -> Said
 
 // FACILITY about service 3.
 #[tactic(auto, unfolding(crate::specs::Messages::about_three_of))]
-fn about_three(s: Said) -> Option<Message>
-    ensures { result ≡ about_three_of s }
+fn about_three(s: Said) -> Message
+    ensures { Some result ≡ about_three_of s }
 {
     saying(
         Kind::Facility,
         None,
         ByService {
-            one: Said::Nothing,
-            two: Said::Nothing,
             three: s,
+            ..ByService::same(Said::Nothing)
         },
         false,
     )
@@ -42,7 +41,7 @@ pub fn to_asker(verdict: Answer) -> Option<Message>
     ensures { result ≡ to_asker_of verdict }
 {
     match verdict {
-        Answer::NotGranted => about_three(Said::ByNetwork),
+        Answer::NotGranted => Some(about_three(Said::ByNetwork)),
         _ => None,
     }
 }
@@ -52,9 +51,5 @@ pub fn to_asker(verdict: Answer) -> Option<Message>
 pub fn to_other(verdict: Answer, what: What) -> Option<Message>
     ensures { result ≡ to_other_of verdict what }
 {
-    if taken(verdict) {
-        about_three(facility_said(what))
-    } else {
-        None
-    }
+    only_if(taken(verdict), Some(about_three(facility_said(what))))
 }

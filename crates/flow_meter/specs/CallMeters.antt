@@ -1,10 +1,9 @@
 -- The two meters of a call, and what the events make of them.
-use Rattle.std.specs.Prelude.{Option}
+use Rattle.std.specs.Prelude.{Option, ℕ, Bool, cond, ◌&&◌}
 use Rattle.sent.specs.declared.Message.{Message}
 use Rattle.sent.specs.declared.side.BySide.{BySide}
 use Rattle.flow_meter.specs.Meter.{empty_of, granted_of, ticked_of}
 use Rattle.flow_meter.specs.Passage.{after_of}
-use Rattle.std.specs.Prelude.{ℕ, Bool, cond, ◌&&◌}
 use Rattle.flow_meter.specs.declared.Meter.{Meter}
 use Rattle.flow_meter.specs.declared.passage.Passage.{Passage}
 use Rattle.sent.specs.declared.side.Side.{Side}

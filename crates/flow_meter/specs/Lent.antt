@@ -5,8 +5,7 @@ use Rattle.flow_meter.specs.declared.Meter.{Meter}
 use Rattle.flow_meter.specs.declared.passage.Passage.{Passage}
 use Rattle.flow_meter.specs.declared.lent.Spent.{Spent}
 use Rattle.flow_meter.specs.declared.lent.Ticked.{Ticked}
-use Rattle.flow_meter.specs.declared.lent.Spending.{Spending}
-use Rattle.flow_meter.specs.declared.lent.Ticking.{Ticking}
+use Rattle.flow_meter.specs.declared.lent.Left.{Left}
 use Rattle.flow_meter.specs.Meter.{meter_fits_of, ticked_of}
 use Rattle.flow_meter.specs.Passage.{passage_of, after_of}
 
@@ -23,11 +22,11 @@ unfoldable pub lent_fits_of : Meter → ℕ → Bool
 lent_fits_of m burst = within 1 burst greatest_burst && meter_fits_of m burst
 
 -- A message in the meter's direction, which service 2 and service 3 serve or not. 25 leaves the meter as it was.
-unfoldable pub spends_of : Meter → ℕ → Bool → Bool → Spending
+unfoldable pub spends_of : Meter → ℕ → Bool → Bool → Left Spent
 spends_of m burst two three =
     record {
       next = cond (lent_fits_of m burst) (after_of m (passage_of m two three)) m;
-      spent = cond (lent_fits_of m burst) (spent_by (passage_of m two three)) Spent.Unsound;
+      answer = cond (lent_fits_of m burst) (spent_by (passage_of m two three)) Spent.Unsound;
     }
 
 -- "refill Y 1 to 255"
@@ -35,11 +34,11 @@ unfoldable pub refill_fits_of : Meter → ℕ → ℕ → Bool
 refill_fits_of m burst refill = (lent_fits_of m burst && leb 1 refill) && leb refill greatest_refill
 
 -- "A tick with the mark set clears it and sends ready"
-unfoldable pub ticks_of : Meter → ℕ → ℕ → Ticking
+unfoldable pub ticks_of : Meter → ℕ → ℕ → Left Ticked
 ticks_of m burst refill =
     record {
       next = cond (refill_fits_of m burst refill) (ticked_of m burst refill) m;
-      ticked = cond (refill_fits_of m burst refill) (cond m.mark Ticked.Ready Ticked.Quiet) Ticked.Unsound;
+      answer = cond (refill_fits_of m burst refill) (cond m.mark Ticked.Ready Ticked.Quiet) Ticked.Unsound;
     }
 
 -- the paper's number of each answer

@@ -18,59 +18,55 @@ pub struct Meter {
     pub count: u8,
 }
 
-#[tactic(auto, unfolding(crate::specs::Meter::empty_of))]
-pub(crate) fn empty() -> Meter
-    ensures { result ≡ empty_of }
-{
-    Meter {
-        credit: 0,
-        mark: false,
-        count: 0,
-    }
-}
-
-#[tactic(auto, unfolding(crate::specs::Meter::meter_fits_of))]
-pub fn meter_fits(m: Meter, burst: u16) -> bool
-    ensures { result ≡ meter_fits_of m burst }
-{
-    (m.credit <= burst) & (m.count <= GREATEST_COUNT)
-}
-
-// The meter as service 3 comes into force.
-#[tactic(auto, unfolding(crate::specs::Meter::granted_of))]
-pub(crate) fn granted(m: Meter, burst: u16) -> Meter
-    ensures { result ≡ granted_of m burst }
-{
-    Meter {
-        credit: burst,
-        mark: m.mark,
-        count: m.count,
-    }
-}
-
-// The sum is tested before it is made, since it may not fit.
+// A tick adds the refill, up to the burst.
 #[tactic(auto, unfolding(crate::specs::Meter::refilled_of))]
 fn refilled(credit: u16, burst: u16, refill: u16) -> u16
     ensures { result ≡ refilled_of credit burst refill }
 {
-    if credit <= burst {
-        if refill <= burst - credit {
-            credit + refill
-        } else {
-            burst
+    credit.saturating_add(refill).min(burst)
+}
+
+impl Meter {
+    // The meter as a call begins.
+    #[tactic(auto, unfolding(crate::specs::Meter::empty_of))]
+    pub(crate) fn empty() -> Meter
+        ensures { result ≡ empty_of }
+    {
+        Meter {
+            credit: 0,
+            mark: false,
+            count: 0,
         }
-    } else {
-        burst
+    }
+
+    // The meter as service 3 comes into force.
+    #[tactic(auto, unfolding(crate::specs::Meter::granted_of))]
+    pub(crate) fn granted(self, burst: u16) -> Meter
+        ensures { result ≡ granted_of self burst }
+    {
+        Meter {
+            credit: burst,
+            ..self
+        }
+    }
+
+    // The meter after a tick.
+    #[tactic(auto, unfolding(crate::specs::Meter::ticked_of))]
+    pub(crate) fn ticked(self, burst: u16, refill: u16) -> Meter
+        ensures { result ≡ ticked_of self burst refill }
+    {
+        Meter {
+            credit: refilled(self.credit, burst, refill),
+            mark: false,
+            ..self
+        }
     }
 }
 
-#[tactic(auto, unfolding(crate::specs::Meter::ticked_of))]
-pub(crate) fn ticked(m: Meter, burst: u16, refill: u16) -> Meter
-    ensures { result ≡ ticked_of m burst refill }
+// No method: its callers outside have it by this name, after its definition, `meter_fits_of`.
+#[tactic(auto, unfolding(crate::specs::Meter::meter_fits_of))]
+pub fn meter_fits(m: Meter, burst: u16) -> bool
+    ensures { result ≡ meter_fits_of m burst }
 {
-    Meter {
-        credit: refilled(m.credit, burst, refill),
-        mark: false,
-        count: m.count,
-    }
+    m.credit <= burst && m.count <= GREATEST_COUNT
 }

@@ -1,7 +1,6 @@
 -- What a USER INFORMATION message is answered, which service carries it, and what both sides are sent.
-use Rattle.std.specs.Prelude.{Option, Some, None}
+use Rattle.std.specs.Prelude.{Option, Some, None, Bool, true, false}
 use Rattle.sent.specs.declared.Message.{Message}
-use Rattle.std.specs.Prelude.{Bool, true, false}
 use Rattle.flow_meter.specs.declared.passage.Passage.{Passage}
 use Rattle.rights.specs.declared.Service.{Service}
 use Rattle.sent.specs.declared.Level.{Level}

@@ -6,7 +6,7 @@ ghost use Rattle.information_rules.specs.Serving.{late_of, serves_two_of, serves
 
 use flow_meter::Meter;
 use flow_meter::passage::{Passage, passage_of};
-use phases::Phase;
+use phases::{Phase, is_active};
 use sent::side::Side;
 
 pub mod messages;
@@ -15,10 +15,7 @@ pub mod messages;
 fn late(side: Side, right: bool) -> bool
     ensures { result ≡ late_of side right }
 {
-    match side {
-        Side::Calling => right,
-        Side::Called => false,
-    }
+    right && matches!(side, Side::Calling)
 }
 
 // Whether service 2 serves in a phase; `force` says whether it is in force.
@@ -27,7 +24,7 @@ fn serves_two(p: Phase, force: bool, late: bool) -> bool
 {
     match p {
         Phase::Alerting => force,
-        Phase::Active => force & late,
+        Phase::Active => force && late,
         _ => false,
     }
 }
@@ -35,10 +32,7 @@ fn serves_two(p: Phase, force: bool, late: bool) -> bool
 pub fn serves_three(p: Phase, force: bool) -> bool
     ensures { result ≡ serves_three_of p force }
 {
-    match p {
-        Phase::Active => force,
-        _ => false,
-    }
+    force && is_active(p)
 }
 
 // What a side's message meets in its meter; `right` says whether the rights have late delivery, two and three which

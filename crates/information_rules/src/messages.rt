@@ -11,10 +11,8 @@ pub fn passage_answer(p: Passage) -> Answer
     ensures { result ≡ passage_answer_of p }
 {
     match p {
-        Passage::Two(_) => Answer::Taken,
-        Passage::Three(_) => Answer::Taken,
-        Passage::Marks(_) => Answer::Spent,
-        Passage::Spent => Answer::Spent,
+        Passage::Two(_) | Passage::Three(_) => Answer::Taken,
+        Passage::Marks(_) | Passage::Spent => Answer::Spent,
         Passage::Unserved => Answer::NoService,
     }
 }
@@ -36,7 +34,7 @@ pub fn to_sender(p: Passage) -> Option<Message>
     ensures { result ≡ to_sender_of p }
 {
     match p {
-        Passage::Marks(_) => congestion(Level::NotReady),
+        Passage::Marks(_) => Some(congestion(Level::NotReady)),
         _ => None,
     }
 }
@@ -47,7 +45,7 @@ pub fn to_receiver(p: Passage, more: bool) -> Option<Message>
     ensures { result ≡ to_receiver_of p more }
 {
     match p {
-        Passage::Two(_) | Passage::Three(_) => informs(more),
+        Passage::Two(_) | Passage::Three(_) => Some(informs(more)),
         _ => None,
     }
 }

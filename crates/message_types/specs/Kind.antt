@@ -1,7 +1,6 @@
 -- "Nine types, hexadecimal: ALERTING 01, CALL PROCEEDING 02, SETUP 05, CONNECT 07, USER INFORMATION 20, DISCONNECT 45,
 -- RELEASE COMPLETE 5A, FACILITY 62, CONGESTION CONTROL 79."
-use Rattle.std.specs.Prelude.{Option, Some, None}
-use Rattle.std.specs.Prelude.{ℕ, cond, eqb}
+use Rattle.std.specs.Prelude.{Option, Some, None, ℕ, cond, eqb}
 use Rattle.message_types.specs.declared.Kind.{Kind}
 use Rattle.message_types.specs.declared.Class.{Class}
 

@@ -4,17 +4,18 @@
 ghost use Rattle.std.specs.Prelude.{◌≡◌};
 ghost use Rattle.message_types.specs.Kind.{kind_of, kind_octet, class_of};
 
+// Each type has the octet that it is written by.
 #[derive(Clone, Copy)]
 pub enum Kind {
-    Alerting,
-    CallProceeding,
-    Setup,
-    Connect,
-    UserInformation,
-    Disconnect,
-    ReleaseComplete,
-    Facility,
-    CongestionControl,
+    Alerting = 0x01,
+    CallProceeding = 0x02,
+    Setup = 0x05,
+    Connect = 0x07,
+    UserInformation = 0x20,
+    Disconnect = 0x45,
+    ReleaseComplete = 0x5A,
+    Facility = 0x62,
+    CongestionControl = 0x79,
 }
 
 // Which single octet a message of a type may have: none, More data, or a congestion level.
@@ -25,6 +26,8 @@ pub enum Class {
     Congestion,
 }
 
+// The type that an octet names, if it is one of the nine. An Option and no TryFrom, since what another octet means is
+// for the reader of the message to say.
 #[tactic(auto, unfolding(crate::specs::Kind::kind_of))]
 pub fn kind_in(x: u8) -> Option<Kind>
     ensures { result ≡ kind_of x }
@@ -46,17 +49,7 @@ pub fn kind_in(x: u8) -> Option<Kind>
 pub fn kind_octet(k: Kind) -> u8
     ensures { result ≡ kind_octet k }
 {
-    match k {
-        Kind::Alerting => 0x01,
-        Kind::CallProceeding => 0x02,
-        Kind::Setup => 0x05,
-        Kind::Connect => 0x07,
-        Kind::UserInformation => 0x20,
-        Kind::Disconnect => 0x45,
-        Kind::ReleaseComplete => 0x5A,
-        Kind::Facility => 0x62,
-        Kind::CongestionControl => 0x79,
-    }
+    k as u8
 }
 
 pub fn class_of(k: Kind) -> Class

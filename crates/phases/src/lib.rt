@@ -18,68 +18,50 @@ pub enum Phase {
 pub fn is_fresh(p: Phase) -> bool
     ensures { result ≡ fresh_of p }
 {
-    match p {
-        Phase::Fresh => true,
-        _ => false,
-    }
+    matches!(p, Phase::Fresh)
 }
 
 // ALERTING.
 pub fn is_requested(p: Phase) -> bool
     ensures { result ≡ requested_of p }
 {
-    match p {
-        Phase::Requested => true,
-        _ => false,
-    }
+    matches!(p, Phase::Requested)
 }
 
 // CONNECT.
 pub fn is_connectable(p: Phase) -> bool
     ensures { result ≡ connectable_of p }
 {
-    match p {
-        Phase::Requested | Phase::Alerting => true,
-        _ => false,
-    }
+    matches!(p, Phase::Requested | Phase::Alerting)
 }
 
 // USER INFORMATION.
 pub fn is_talking(p: Phase) -> bool
     ensures { result ≡ talking_of p }
 {
-    match p {
-        Phase::Alerting | Phase::Active => true,
-        _ => false,
-    }
+    matches!(p, Phase::Alerting | Phase::Active)
 }
 
 // FACILITY.
 pub fn is_active(p: Phase) -> bool
     ensures { result ≡ active_of p }
 {
-    match p {
-        Phase::Active => true,
-        _ => false,
-    }
+    matches!(p, Phase::Active)
 }
 
 // DISCONNECT.
 pub fn is_up(p: Phase) -> bool
     ensures { result ≡ up_of p }
 {
-    match p {
-        Phase::Requested | Phase::Alerting | Phase::Active => true,
-        _ => false,
-    }
+    matches!(p, Phase::Requested | Phase::Alerting | Phase::Active)
 }
 
 // RELEASE COMPLETE and tick.
 pub fn is_live(p: Phase) -> bool
     ensures { result ≡ live_of p }
 {
-    match p {
-        Phase::Requested | Phase::Alerting | Phase::Active | Phase::Clearing => true,
-        _ => false,
-    }
+    matches!(
+        p,
+        Phase::Requested | Phase::Alerting | Phase::Active | Phase::Clearing
+    )
 }

@@ -16,14 +16,16 @@ pub const GREATEST_REFILL: u16 = 255;
 
 const GREATEST_REFERENCE: u16 = 32767;
 
+// The three services by their numbers.
 #[derive(Clone, Copy)]
 pub enum Service {
-    One,
-    Two,
-    Three,
+    One = 1,
+    Two = 2,
+    Three = 3,
 }
 
-// services: bit 0 is service 1, bit 1 service 2, bit 2 service 3. burst is X and refill is Y.
+// services: bit 0 is service 1, bit 1 service 2, bit 2 service 3. It is a number, and no flag for each service, since
+// rights with one over 7 can be handed in, and are answered 24. burst is X and refill is Y.
 #[derive(Clone, Copy)]
 pub struct Rights {
     pub services: u8,
@@ -50,17 +52,17 @@ pub fn rights_fit(r: Rights) -> bool
     ensures { result ≡ rights_fit_of r }
 {
     let services = r.services <= GREATEST_SERVICES;
-    let limit = (LEAST_LIMIT <= r.limit) & (r.limit <= GREATEST_LIMIT);
-    let burst = (1 <= r.burst) & (r.burst <= GREATEST_BURST);
-    let refill = (1 <= r.refill) & (r.refill <= GREATEST_REFILL);
-    services & limit & burst & refill
+    let limit = (LEAST_LIMIT..=GREATEST_LIMIT).contains(&r.limit);
+    let burst = (1..=GREATEST_BURST).contains(&r.burst);
+    let refill = (1..=GREATEST_REFILL).contains(&r.refill);
+    services && limit && burst && refill
 }
 
 #[tactic(auto, unfolding(crate::specs::Rights::reference_fits_of))]
 pub fn reference_fits(n: u16) -> bool
     ensures { result ≡ reference_fits_of n }
 {
-    (1 <= n) & (n <= GREATEST_REFERENCE)
+    (1..=GREATEST_REFERENCE).contains(&n)
 }
 
 #[tactic(auto, unfolding(crate::specs::Rights::no_rights))]

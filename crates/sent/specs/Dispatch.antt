@@ -1,7 +1,6 @@
 -- What an event sends: "At most one message goes to each user per event." And the service that carries its element.
-use Rattle.std.specs.Prelude.{Option, Some, None}
+use Rattle.std.specs.Prelude.{Option, Some, None, Bool, cond}
 use Rattle.sent.specs.declared.Message.{Message}
-use Rattle.std.specs.Prelude.{Bool, cond}
 use Rattle.rights.specs.declared.Service.{Service}
 use Rattle.sent.specs.declared.dispatch.Dispatch.{Dispatch}
 

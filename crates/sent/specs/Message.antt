@@ -1,8 +1,7 @@
 -- A message to one user.
-use Rattle.std.specs.Prelude.{Option, Some, None, ℕ}
+use Rattle.std.specs.Prelude.{Option, Some, None, ℕ, Bool, true, false, cond}
 use Rattle.sent.specs.declared.Message.{Message}
 use Rattle.services.specs.declared.ByService.{ByService}
-use Rattle.std.specs.Prelude.{Bool, true, false, cond}
 use Rattle.services.specs.declared.Said.{Said}
 use Rattle.message_types.specs.declared.Kind.{Kind}
 use Rattle.sent.specs.declared.Level.{Level}

@@ -5,7 +5,8 @@ ghost use Rattle.sent.specs.Dispatch.{by_one_of, to_users_of, nothing_sent};
 use crate::Message;
 use rights::Service;
 
-// calling and called: what goes to the calling and to the called user.
+// calling and called: what goes to the calling and to the called user. They are no `BySide` of their own: `to_users_of`
+// and the promises' `sent_to` name them in the Dispatch.
 #[derive(Clone, Copy)]
 pub struct Dispatch {
     pub calling: Option<Message>,
@@ -18,7 +19,7 @@ pub struct Dispatch {
 pub fn by_one(goes: bool) -> Option<Service>
     ensures { result ≡ by_one_of goes }
 {
-    if goes { Some(Service::One) } else { None }
+    goes.then_some(Service::One)
 }
 
 pub fn to_users(
@@ -29,9 +30,9 @@ pub fn to_users(
     ensures { result ≡ to_users_of calling called carrier }
 {
     Dispatch {
-        calling: calling,
-        called: called,
-        carrier: carrier,
+        calling,
+        called,
+        carrier,
     }
 }
 

@@ -2,8 +2,8 @@
 // goes out.
 #![tactic(auto)]
 
-ghost use Rattle.std.specs.Prelude.{◌≡◌};
-ghost use Rattle.sent.specs.Message.{saying_of, bare_of, congestion_of, informs_of, only_if_of};
+ghost use Rattle.std.specs.Prelude.{◌≡◌, Some, false};
+ghost use Rattle.sent.specs.Message.{silence, saying_of, bare_of, congestion_of, informs_of, only_if_of};
 
 use cause::DISCARDED;
 use message_types::Kind;
@@ -13,12 +13,14 @@ pub mod dispatch;
 pub mod side;
 
 // Nothing is said of any service.
-const SILENCE: ByService<Said> = ByService {
-    one: Said::Nothing,
-    two: Said::Nothing,
-    three: Said::Nothing,
-};
+#[tactic(auto, unfolding(crate::specs::Message::silence))]
+fn silence() -> ByService<Said>
+    ensures { result ≡ silence }
+{
+    ByService::same(Said::Nothing)
+}
 
+// Three values, and no Option of two: each promise on a message names one of the three.
 #[derive(Clone, Copy)]
 pub enum Level {
     Absent,
@@ -37,66 +39,69 @@ pub struct Message {
     pub element: bool,
 }
 
-#[tactic(auto, unfolding(crate::specs::Message::saying_of))]
-pub fn saying(
-    kind: Kind,
-    cause: Option<u8>,
-    said: ByService<Said>,
-    element: bool,
-) -> Option<Message>
-    ensures { result ≡ saying_of kind cause said element }
+// A message with its type and nothing else.
+fn plain(kind: Kind) -> Message
+    ensures { result ≡ record { kind = kind; cause = None; level = Level.Absent; said = silence; more = false; element = false } }
 {
-    Some(Message {
-        kind: kind,
-        cause: cause,
+    Message {
+        kind,
+        cause: None,
         level: Level::Absent,
-        said: said,
+        said: silence(),
         more: false,
-        element: element,
-    })
+        element: false,
+    }
+}
+
+// The definitions are of what a user is sent: so the contract of each message here names it with its `Some`.
+#[tactic(auto, unfolding(crate::specs::Message::saying_of))]
+pub fn saying(kind: Kind, cause: Option<u8>, said: ByService<Said>, element: bool) -> Message
+    ensures { Some result ≡ saying_of kind cause said element }
+{
+    Message {
+        cause,
+        said,
+        element,
+        ..plain(kind)
+    }
 }
 
 // A message that says nothing of any service and holds no element.
-#[tactic(auto, unfolding(crate::specs::Message::bare_of, crate::specs::Message::silence))]
-pub fn bare(kind: Kind, cause: Option<u8>) -> Option<Message>
-    ensures { result ≡ bare_of kind cause }
+#[tactic(auto, unfolding(crate::specs::Message::bare_of))]
+pub fn bare(kind: Kind, cause: Option<u8>) -> Message
+    ensures { Some result ≡ bare_of kind cause }
 {
-    saying(kind, cause, SILENCE, false)
+    saying(kind, cause, silence(), false)
 }
 
 // CONGESTION CONTROL, ready or not ready: both with the same cause.
-#[tactic(auto, unfolding(crate::specs::Message::congestion_of, crate::specs::Message::silence))]
-pub fn congestion(level: Level) -> Option<Message>
-    ensures { result ≡ congestion_of level }
+#[tactic(auto, unfolding(crate::specs::Message::congestion_of))]
+pub fn congestion(level: Level) -> Message
+    ensures { Some result ≡ congestion_of level }
 {
-    Some(Message {
-        kind: Kind::CongestionControl,
+    Message {
         cause: Some(DISCARDED),
-        level: level,
-        said: SILENCE,
-        more: false,
-        element: false,
-    })
+        level,
+        ..plain(Kind::CongestionControl)
+    }
 }
 
 // USER INFORMATION with the event's element.
-#[tactic(auto, unfolding(crate::specs::Message::informs_of, crate::specs::Message::silence))]
-pub fn informs(more: bool) -> Option<Message>
-    ensures { result ≡ informs_of more }
+#[tactic(auto, unfolding(crate::specs::Message::informs_of))]
+pub fn informs(more: bool) -> Message
+    ensures { Some result ≡ informs_of more }
 {
-    Some(Message {
-        kind: Kind::UserInformation,
-        cause: None,
-        level: Level::Absent,
-        said: SILENCE,
-        more: more,
+    Message {
+        more,
         element: true,
-    })
+        ..plain(Kind::UserInformation)
+    }
 }
 
+// By `only_if_of` the rules say when a message goes out, of any `Option<Message>`: so it is a function of its own.
 #[tactic(auto, unfolding(crate::specs::Message::only_if_of))]
 pub fn only_if(b: bool, s: Option<Message>) -> Option<Message>
     ensures { result ≡ only_if_of b s }
 {
-    if b { s } else { None }
+    s.filter(|_| b)
 }

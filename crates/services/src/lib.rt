@@ -1,7 +1,7 @@
 // What was asked for of each service, what was answered, how the service stands, and what is said of it to a user.
 #![tactic(auto)]
 
-ghost use Rattle.std.specs.Prelude.{◌≡◌};
+ghost use Rattle.std.specs.Prelude.{◌≡◌, Bool, ◌||◌};
 ghost use Rattle.services.specs.Standing.{in_force_of, awaits_of, remains_of, no_services};
 
 // One thing for each of the three services.
@@ -12,7 +12,58 @@ pub struct ByService<T> {
     pub three: T,
 }
 
-// What SETUP says of a service.
+impl<T: Copy> ByService<T> {
+    // The same of each service.
+    pub fn same(of_each: T) -> ByService<T>
+        ensures { result ≡ record { one = of_each; two = of_each; three = of_each } }
+    {
+        ByService {
+            one: of_each,
+            two: of_each,
+            three: of_each,
+        }
+    }
+
+    // What a function makes of each service.
+    pub fn map<U, F: Fn(T) -> U>(self, f: F) -> ByService<U>
+        requires { F.IsAlwaysCallable f }
+        ensures one { F.post f self.one result.one }
+        ensures two { F.post f self.two result.two }
+        ensures three { F.post f self.three result.three }
+    {
+        ByService {
+            one: f(self.one),
+            two: f(self.two),
+            three: f(self.three),
+        }
+    }
+
+    // What a function makes of each service and of what is beside it.
+    pub fn zip_with<V: Copy, U, F: Fn(T, V) -> U>(self, beside: ByService<V>, f: F) -> ByService<U>
+        requires { F.IsAlwaysCallable f }
+        ensures one { F.post f self.one beside.one result.one }
+        ensures two { F.post f self.two beside.two result.two }
+        ensures three { F.post f self.three beside.three result.three }
+    {
+        ByService {
+            one: f(self.one, beside.one),
+            two: f(self.two, beside.two),
+            three: f(self.three, beside.three),
+        }
+    }
+}
+
+impl ByService<bool> {
+    // Whether it holds of a service.
+    pub fn any(self) -> bool
+        ensures { result ≡ (self.one || self.two) || self.three }
+    {
+        self.one || self.two || self.three
+    }
+}
+
+// What SETUP says of a service. Three values, and no Option of two: `lacking_of`, `asked_standing_of` and the other
+// rules of SETUP name each of the three.
 #[derive(Clone, Copy)]
 pub enum Request {
     Unasked,
@@ -20,7 +71,7 @@ pub enum Request {
     Required,
 }
 
-// What the called side answers.
+// What the called side answers. Three values, and no Option of two: `decided_of` and `rejection_of` name each of them.
 #[derive(Clone, Copy)]
 pub enum Given {
     Silent,
@@ -29,6 +80,7 @@ pub enum Given {
 }
 
 // How a service stands in a call. A request is open while it is Preferred or Required.
+// Unasked is one value of the five, and no None: `in_force_of` and `awaits_of` name each of them.
 #[derive(Clone, Copy)]
 pub enum Standing {
     Unasked,
@@ -38,7 +90,8 @@ pub enum Standing {
     Closed,
 }
 
-// What a message says of a service.
+// What a message says of a service. Nothing is one value of the six, and no None: `silence`, `said_item` and
+// `component_for` name it as they name the rest.
 #[derive(Clone, Copy)]
 pub enum Said {
     Nothing,
@@ -52,20 +105,14 @@ pub enum Said {
 pub fn in_force(s: Standing) -> bool
     ensures { result ≡ in_force_of s }
 {
-    match s {
-        Standing::InForce => true,
-        _ => false,
-    }
+    matches!(s, Standing::InForce)
 }
 
 // Whether the request is open.
 pub fn awaits(s: Standing) -> bool
     ensures { result ≡ awaits_of s }
 {
-    match s {
-        Standing::Preferred | Standing::Required => true,
-        _ => false,
-    }
+    matches!(s, Standing::Preferred | Standing::Required)
 }
 
 // Whether the service remains after SETUP.
@@ -73,16 +120,12 @@ pub fn awaits(s: Standing) -> bool
 pub fn remains(s: Standing) -> bool
     ensures { result ≡ remains_of s }
 {
-    in_force(s) | awaits(s)
+    in_force(s) || awaits(s)
 }
 
 #[tactic(auto, unfolding(crate::specs::Standing::no_services))]
 pub fn no_services() -> ByService<Standing>
     ensures { result ≡ no_services }
 {
-    ByService {
-        one: Standing::Unasked,
-        two: Standing::Unasked,
-        three: Standing::Unasked,
-    }
+    ByService::same(Standing::Unasked)
 }

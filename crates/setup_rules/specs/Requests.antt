@@ -1,8 +1,7 @@
 -- What SETUP asks for, held against the rights. had says whether the rights have the service.
-use Rattle.std.specs.Prelude.{Option, Some, None}
+use Rattle.std.specs.Prelude.{Option, Some, None, Bool, false, cond, ◌||◌, not, ◌&&◌}
 use Rattle.sent.specs.declared.Message.{Message}
 use Rattle.services.specs.declared.ByService.{ByService}
-use Rattle.std.specs.Prelude.{Bool, false, cond, ◌||◌, not, ◌&&◌}
 use Rattle.user_element.specs.declared.Seen.{Seen}
 use Rattle.rights.specs.declared.Rights.{Rights}
 use Rattle.rights.specs.declared.Service.{Service}

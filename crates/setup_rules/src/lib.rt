@@ -1,7 +1,9 @@
 // SETUP: what it asks for, held against the rights: how each service then stands, and what is said of it to each user.
 #![tactic(auto)]
 
-ghost use Rattle.std.specs.Prelude.{◌≡◌};
+ghost use Rattle.std.specs.Prelude.{◌≡◌, Some};
+ghost use Rattle.rights.specs.Rights.{has_of};
+ghost use Rattle.rights.specs.declared.Service.{Service};
 ghost use Rattle.setup_rules.specs.Requests.{asked_standing_of, first_standing_of, lacking_of, passed_request_of, network_refusal_of, standings_of, lacks_of, network_refusals_of, passed_requests_of, setup_phase_of, to_caller_of, to_called_of, opening_of};
 
 use cause::NOT_SUBSCRIBED;
@@ -9,7 +11,7 @@ use message_types::Kind;
 use phases::Phase;
 use rights::{Rights, Service, has};
 use sent::dispatch::{Dispatch, by_one, to_users};
-use sent::{Message, saying};
+use sent::{Message, only_if, saying};
 use services::{ByService, Request, Said, Standing, remains};
 use user_element::{Note, Seen, goes_out, noted, whole};
 
@@ -27,22 +29,11 @@ pub struct Opening {
 fn asked_standing(q: Request, had: bool) -> Standing
     ensures { result ≡ asked_standing_of q had }
 {
-    match q {
-        Request::Unasked => Standing::Unasked,
-        Request::Preferred => {
-            if had {
-                Standing::Preferred
-            } else {
-                Standing::Closed
-            }
-        }
-        Request::Required => {
-            if had {
-                Standing::Required
-            } else {
-                Standing::Closed
-            }
-        }
+    match (q, had) {
+        (Request::Unasked, _) => Standing::Unasked,
+        (Request::Preferred, true) => Standing::Preferred,
+        (Request::Required, true) => Standing::Required,
+        (_, false) => Standing::Closed,
     }
 }
 
@@ -51,21 +42,10 @@ fn asked_standing(q: Request, had: bool) -> Standing
 fn first_standing(q: Request, s: Seen, had: bool) -> Standing
     ensures { result ≡ first_standing_of q s had }
 {
-    let asked = asked_standing(q, had);
     match q {
-        Request::Unasked => {
-            if whole(s) {
-                if had {
-                    Standing::InForce
-                } else {
-                    Standing::Closed
-                }
-            } else {
-                asked
-            }
-        }
-        Request::Preferred => asked,
-        Request::Required => asked,
+        Request::Unasked if whole(s) && had => Standing::InForce,
+        Request::Unasked if whole(s) => Standing::Closed,
+        _ => asked_standing(q, had),
     }
 }
 
@@ -73,21 +53,17 @@ fn first_standing(q: Request, s: Seen, had: bool) -> Standing
 fn lacking(q: Request, had: bool) -> bool
     ensures { result ≡ lacking_of q had }
 {
-    match q {
-        Request::Unasked => false,
-        Request::Preferred => false,
-        Request::Required => !had,
-    }
+    matches!(q, Request::Required) && !had
 }
 
 // What SETUP tells the called user.
 fn passed_request(q: Request, had: bool) -> Said
     ensures { result ≡ passed_request_of q had }
 {
-    match q {
-        Request::Unasked => Said::Nothing,
-        Request::Preferred => { if had { Said::Preferred } else { Said::Nothing } }
-        Request::Required => { if had { Said::Required } else { Said::Nothing } }
+    match (q, had) {
+        (Request::Preferred, true) => Said::Preferred,
+        (Request::Required, true) => Said::Required,
+        _ => Said::Nothing,
     }
 }
 
@@ -95,10 +71,20 @@ fn passed_request(q: Request, had: bool) -> Said
 fn network_refusal(q: Request, had: bool) -> Said
     ensures { result ≡ network_refusal_of q had }
 {
-    match q {
-        Request::Unasked => Said::Nothing,
-        Request::Preferred => { if had { Said::Nothing } else { Said::ByNetwork } }
-        Request::Required => { if had { Said::Nothing } else { Said::ByNetwork } }
+    match (q, had) {
+        (Request::Preferred | Request::Required, false) => Said::ByNetwork,
+        _ => Said::Nothing,
+    }
+}
+
+// Which services the rights have. Each rule asks for itself: `standings_of`, `lacks_of` and the others take the rights.
+fn had(rights: Rights) -> ByService<bool>
+    ensures { result ≡ record { one = has_of rights Service.One; two = has_of rights Service.Two; three = has_of rights Service.Three } }
+{
+    ByService {
+        one: has(rights, Service::One),
+        two: has(rights, Service::Two),
+        three: has(rights, Service::Three),
     }
 }
 
@@ -107,13 +93,11 @@ fn network_refusal(q: Request, had: bool) -> Said
 fn standings_of(rights: Rights, q: ByService<Request>, s: Seen) -> ByService<Standing>
     ensures { result ≡ standings_of rights q s }
 {
-    let one = q.one;
-    let two = q.two;
-    let three = q.three;
+    let had = had(rights);
     ByService {
-        one: first_standing(one, s, has(rights, Service::One)),
-        two: asked_standing(two, has(rights, Service::Two)),
-        three: asked_standing(three, has(rights, Service::Three)),
+        one: first_standing(q.one, s, had.one),
+        two: asked_standing(q.two, had.two),
+        three: asked_standing(q.three, had.three),
     }
 }
 
@@ -122,40 +106,21 @@ fn standings_of(rights: Rights, q: ByService<Request>, s: Seen) -> ByService<Sta
 fn lacks(rights: Rights, q: ByService<Request>) -> bool
     ensures { result ≡ lacks_of rights q }
 {
-    let one = q.one;
-    let two = q.two;
-    let three = q.three;
-    lacking(one, has(rights, Service::One))
-        | lacking(two, has(rights, Service::Two))
-        | lacking(three, has(rights, Service::Three))
+    q.zip_with(had(rights), lacking).any()
 }
 
 #[tactic(auto, unfolding(crate::specs::Requests::network_refusals_of))]
 fn network_refusals(rights: Rights, q: ByService<Request>) -> ByService<Said>
     ensures { result ≡ network_refusals_of rights q }
 {
-    let one = q.one;
-    let two = q.two;
-    let three = q.three;
-    ByService {
-        one: network_refusal(one, has(rights, Service::One)),
-        two: network_refusal(two, has(rights, Service::Two)),
-        three: network_refusal(three, has(rights, Service::Three)),
-    }
+    q.zip_with(had(rights), network_refusal)
 }
 
 #[tactic(auto, unfolding(crate::specs::Requests::passed_requests_of))]
 fn passed_requests(rights: Rights, q: ByService<Request>) -> ByService<Said>
     ensures { result ≡ passed_requests_of rights q }
 {
-    let one = q.one;
-    let two = q.two;
-    let three = q.three;
-    ByService {
-        one: passed_request(one, has(rights, Service::One)),
-        two: passed_request(two, has(rights, Service::Two)),
-        three: passed_request(three, has(rights, Service::Three)),
-    }
+    q.zip_with(had(rights), passed_request)
 }
 
 #[tactic(auto, unfolding(crate::specs::Requests::setup_phase_of))]
@@ -171,8 +136,8 @@ fn setup_phase(lacking: bool) -> Phase
 
 // The caller hears what the rights lack, whether the call ends or goes on.
 #[tactic(auto, unfolding(crate::specs::Requests::to_caller_of))]
-fn to_caller(lacking: bool, refusals: ByService<Said>) -> Option<Message>
-    ensures { result ≡ to_caller_of lacking refusals }
+fn to_caller(lacking: bool, refusals: ByService<Said>) -> Message
+    ensures { Some result ≡ to_caller_of lacking refusals }
 {
     if lacking {
         saying(Kind::ReleaseComplete, Some(NOT_SUBSCRIBED), refusals, false)
@@ -181,15 +146,11 @@ fn to_caller(lacking: bool, refusals: ByService<Said>) -> Option<Message>
     }
 }
 
-#[tactic(auto, unfolding(crate::specs::Requests::to_called_of))]
+#[tactic(auto, unfolding(crate::specs::Requests::to_called_of, sent::specs::Message::only_if_of))]
 fn to_called(lacking: bool, requests: ByService<Said>, element: bool) -> Option<Message>
     ensures { result ≡ to_called_of lacking requests element }
 {
-    if lacking {
-        None
-    } else {
-        saying(Kind::Setup, None, requests, element)
-    }
+    only_if(!lacking, Some(saying(Kind::Setup, None, requests, element)))
 }
 
 // The element goes on where the message does and service 1 remains.
@@ -198,16 +159,15 @@ pub fn opens(rights: Rights, q: ByService<Request>, s: Seen) -> Opening
     ensures { result ≡ opening_of rights q s }
 {
     let standings = standings_of(rights, q, s);
-    let one = standings.one;
     let lacking = lacks(rights, q);
-    let carried = !lacking & remains(one);
+    let carried = !lacking && remains(standings.one);
     let goes = goes_out(s, carried);
     Opening {
         phase: setup_phase(lacking),
-        standings: standings,
+        standings,
         note: noted(s, carried),
         dispatch: to_users(
-            to_caller(lacking, network_refusals(rights, q)),
+            Some(to_caller(lacking, network_refusals(rights, q))),
             to_called(lacking, passed_requests(rights, q), goes),
             by_one(goes),
         ),

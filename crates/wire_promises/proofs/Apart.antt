@@ -1,12 +1,6 @@
 -- What a message of a reply says is found again in how it is laid out.
-use Rattle.std.specs.Prelude.{Option, Some, None}
+use Rattle.std.proofs.Common.{Option, Some, None, ℕ, List, [], ◌∷◌, Bool, true, false, cond, ◌≡◌, refl, sym, ap, ◌∙◌, eq-eqb, ne_eqb, eqb}
 use Rattle.services.specs.declared.ByService.{ByService}
-use Prim.Native.Nat.{ℕ}
-use mathlib.Core.List.{List, [], ◌∷◌}
-use mathlib.Core.Bool.{Bool, true, false, cond}
-use mathlib.Core.Path.{◌≡◌, refl, sym, ap, ◌∙◌}
-use borrow.Author.Tests.{eq-eqb, ne_eqb}
-use lib.Dec.{eqb}
 use Rattle.facility.specs.declared.Component.{Component}
 use Rattle.facility.specs.declared.Refusal.{Refusal}
 use Rattle.rights.specs.declared.Service.{Service}

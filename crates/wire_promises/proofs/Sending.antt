@@ -1,15 +1,8 @@
 -- What a call says is in range for the writer, and so is written and read back.
-use Rattle.std.specs.Prelude.{Option, Some, None}
+use Rattle.std.proofs.Common.{Option, Some, None, ℕ, ◌≤◌, List, [], ◌∷◌, Bool, true, false, cond, ◌⊎◌, inl, inr, ⊎_elim, ◌≡◌, refl, sym, ap, ◌∙◌, arith, length}
 use Rattle.services.specs.declared.ByService.{ByService}
 use Rattle.services.specs.declared.Request.{Request}
 use Rattle.answering_rules.specs.declared.Fate.{Fate}
-use Prim.Native.Nat.{ℕ, ◌≤◌}
-use mathlib.Core.List.{List, [], ◌∷◌}
-use mathlib.Core.Bool.{Bool, true, false, cond}
-use mathlib.Core.Logic.{◌⊎◌, inl, inr, ⊎_elim}
-use mathlib.Core.Path.{◌≡◌, refl, sym, ap, ◌∙◌}
-use native.Mathlib.Omega.{arith}
-use lib.ListN.{length}
 use Rattle.facility.specs.declared.Component.{Component}
 use Rattle.rights.specs.declared.Service.{Service}
 use Rattle.facility.specs.Facility.{invoke_number}
@@ -122,7 +115,7 @@ refused_speaks limit c x note = record { calling = tt; called = tt }
 
 heard_speaks : (limit : ℕ) (c : Call) (a g : Bool) (r : Reply) {s : Reply} → Heard c a g r s → (sound_of c ≡ true → a ≡ true → g ≡ true → Speaks limit r) → Speaks limit s
 heard_speaks limit c a g r (through s h k) f = f s h k
-heard_speaks limit c a g r (barred x) f = refused_speaks limit c _ _
+heard_speaks limit c a g r (barred _ x) f = refused_speaks limit c _ _
 
 -- an event that only a live record takes
 live_speaks : (c : Call) (a g : Bool) (r : Reply) {s : Reply} → Heard c a g r s → (a ≡ true → Live c.phase) → (c.rights.limit ≤ 131 → g ≡ true → Speaks c.rights.limit r) → Speaks c.rights.limit s

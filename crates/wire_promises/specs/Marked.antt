@@ -1,6 +1,5 @@
 -- The paper's edges that are marked P, those on reading and those on calls, as one table.
-use Rattle.std.specs.Prelude.{Some, None}
-use Rattle.std.specs.Prelude.{ℕ, List, [], ◌∷◌, ◌++◌, Bool, true, false, ◌≡◌, replicate}
+use Rattle.std.specs.Prelude.{Some, None, ℕ, List, [], ◌∷◌, ◌++◌, Bool, true, false, ◌≡◌, replicate}
 use Rattle.services.specs.declared.Request.{Request}
 use Rattle.message_types.specs.declared.Kind.{Kind}
 use Rattle.phases.specs.declared.Phase.{Phase}

@@ -1,8 +1,7 @@
 -- What is written for messages of real calls, octet by octet, and the element that is read from there.
-use Rattle.std.specs.Prelude.{Option, Some, None, Result, Ok, Err}
+use Rattle.std.specs.Prelude.{Option, Some, None, Result, Ok, Err, ℕ, ◌+◌, List, [], ◌∷◌, ◌++◌, true, false, ◌≡◌, take, replicate}
 use Rattle.memory.specs.declared.Bar.{Bar}
 use Rattle.sent.specs.declared.Message.{Message}
-use Rattle.std.specs.Prelude.{ℕ, ◌+◌, List, [], ◌∷◌, ◌++◌, true, false, ◌≡◌, take, replicate}
 use Rattle.message_fields.specs.declared.Width.{Width}
 use Rattle.message.specs.Parts.{user_user_of}
 use Rattle.services.specs.declared.Given.{Given}

@@ -1,9 +1,8 @@
 -- A message of a reply on the line: how the host lays it out for the writer, and that what is written reads back as the
 -- same.
-use Rattle.std.specs.Prelude.{Option, Some, None, Result, Ok}
+use Rattle.std.specs.Prelude.{Option, Some, None, Result, Ok, ℕ, ◌≤◌, List, [], Bool, true, cond, ◌≡◌, length, take}
 use Rattle.memory.specs.declared.Bar.{Bar}
 use Rattle.services.specs.declared.ByService.{ByService}
-use Rattle.std.specs.Prelude.{ℕ, ◌≤◌, List, [], Bool, true, cond, ◌≡◌, length, take}
 use Rattle.facility.specs.declared.Component.{Component}
 use Rattle.facility.specs.declared.Refusal.{Refusal}
 use Rattle.rights.specs.declared.Service.{Service}
