@@ -23,18 +23,15 @@ use Rattle.table.specs.declared.verdict.Verdict.{Verdict}
 use Rattle.table.specs.declared.settle.Outcome.{Outcome}
 use Rattle.table.specs.Verdict.{verdict_number}
 use Rattle.table.specs.Step.{step_outcome, step_table}
-use Rattle.call_promises.specs.Numbers.{Informs, sends, Says, tells}
-use Rattle.call_promises.specs.Numbers.{other as elsewhere}
+use Rattle.call_promises.specs.Numbers.{Informs, sends, Says, tells, other as elsewhere}
 use Rattle.call_promises.specs.Ranges.{ReferenceInRange, RightsInRange}
 use Rattle.call_promises.specs.Refusals.{sent_to, Unmoved, Marks, Drops, Refusal, rejected_by_network}
 use Rattle.call_promises.proofs.Refusals.{refusals}
-use Rattle.table_promises.specs.Table.{Faulty, twins, LiveAt, Names, holding, Held, Full, SetsUp, Other, number_at, OneSpent}
-use Rattle.table_promises.specs.Table.{setup as at-setup}
+use Rattle.table_promises.specs.Table.{Faulty, twins, LiveAt, Names, holding, Held, Full, SetsUp, Other, number_at, OneSpent, setup as at-setup}
 use Rattle.table_promises.specs.Replies.{out_of_range, already_held, no_place, TableRefuses, faulty, setup, other, Silent, Gives, Own, steps_from}
 use Rattle.table_promises.proofs.Table.{table, refused, fourteen, no_setup, put_back}
 use Rattle.table_promises.proofs.Replies.{told, replies}
-use Rattle.demands.specs.Demand1.{no_place as full, out_of_range as range}
-use Rattle.demands.specs.Demand1.{Listed, taken, out_of_phase, no_event, no_service, spent, not_open, not_granted, bad_element, asked_required, held, no_call, unsound, out_to, OneMessage, MarkSet, NothingDone, EventEnds, Demand1}
+use Rattle.demands.specs.Demand1.{no_place as full, out_of_range as range, Listed, taken, out_of_phase, no_event, no_service, spent, not_open, not_granted, bad_element, asked_required, held, no_call, unsound, out_to, OneMessage, MarkSet, NothingDone, EventEnds, Demand1}
 
 -- ---- reading
 

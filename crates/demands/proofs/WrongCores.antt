@@ -23,31 +23,12 @@ use Rattle.call.specs.declared.Call.{Call}
 use Rattle.call.specs.declared.reply.Reply.{Reply}
 use Rattle.event.specs.declared.Event.{Event}
 use Rattle.call.specs.Step.{step_of}
-use Rattle.flow_meter.specs.Meter.{empty_of, meter_fits_of, granted_of, refilled_of, ticked_of}
-use Rattle.flow_meter.specs.Passage.{counted_of, paid_of, marked_of, under_three_of, passage_of}
-use Rattle.user_element.specs.Element.{well_formed_of, seen_of, goes_out_of}
-use Rattle.rights.specs.Rights.{rights_fit_of, reference_fits_of, no_rights}
-use Rattle.services.specs.Standing.{remains_of, no_services}
-use Rattle.setup_rules.specs.Requests.{first_standing_of, standings_of, lacks_of, passed_requests_of, network_refusals_of, setup_phase_of, to_caller_of, to_called_of, setup_carries_of}
-use Rattle.answering_rules.specs.Fates.{alerting_fates_of, connect_fates_of}
-use Rattle.answering_rules.specs.Effects.{failed_of, settles_of, tells_of, declines_of}
-use Rattle.facility_rules.specs.Asking.{nobody_asks, to_request_of, to_answer_of}
-use Rattle.facility_rules.specs.Messages.{about_three_of}
-use Rattle.sent.specs.Message.{silence, saying_of, bare_of, congestion_of, informs_of, only_if_of}
-use Rattle.flow_meter.specs.CallMeters.{empty_meters, grants_of, refills_of, ready_of, ticked_meters_of}
-use Rattle.call.specs.Sound.{fresh_call, fields_fit_of, sound_of, in_phase_of}
-use Rattle.call.specs.Reply.{bar_of, refused_of, heard_of, reply_of}
-use Rattle.call.specs.Setup.{proceeds_of, setup_of}
-use Rattle.call.specs.Answering.{answered_call_of, goes_on_of, clears_of, answered_of, alerting_of, connect_of}
-use Rattle.call.specs.Information.{meters_of, information_passage_of, carried_of, with_element_of, information_of}
-use Rattle.clearing_rules.specs.Closing.{silent_answers, closing_facilities_of}
-use Rattle.call.specs.Disconnect.{closed_call_of, passed_on_of, disconnect_of}
-use Rattle.call.specs.Facility.{facility_verdict_of, facility_call_of, passes_facility_of, facility_of}
-use Rattle.call.specs.Tick.{runs_of, passes_tick_of, tick_of}
+use Rattle.call.specs.Sound.{fresh_call}
 use Rattle.call.specs.Disconnect.{ends_of, release_complete_of}
 use Rattle.call_promises.specs.Numbers.{Core}
 use Rattle.call_promises.specs.Refusals.{sent_to, altered}
 use Rattle.call_promises.specs.Causes.{CauseTold, own, fails, fails_too, OwnWord, TwentyNine}
+use Rattle.call_promises.proofs.Opened.{steps_compute}
 use Rattle.call_promises.proofs.Causes.{twenty_nine_lem}
 use Rattle.call_promises.specs.Sends.{SendsExactly}
 use Rattle.call_promises.specs.Carriers.{CarriersExactly}
@@ -240,7 +221,7 @@ record Facts : Type 0 where
   counts : (bearer (ours counted).dispatch.carrier ≡ 2) × (bearer (theirs charges_three counted).dispatch.carrier ≡ 3)
 
 facts : Facts
-unfolding empty_of meter_fits_of granted_of counted_of paid_of marked_of under_three_of passage_of well_formed_of seen_of goes_out_of rights_fit_of reference_fits_of remains_of first_standing_of standings_of lacks_of passed_requests_of network_refusals_of failed_of settles_of tells_of declines_of silence nobody_asks saying_of bare_of congestion_of informs_of only_if_of no_rights no_services empty_meters fresh_call fields_fit_of sound_of in_phase_of bar_of refused_of heard_of reply_of setup_phase_of to_caller_of to_called_of setup_carries_of proceeds_of setup_of grants_of answered_call_of goes_on_of clears_of alerting_fates_of connect_fates_of answered_of alerting_of connect_of meters_of information_passage_of carried_of with_element_of information_of refilled_of ticked_of to_request_of to_answer_of silent_answers closing_facilities_of closed_call_of passed_on_of disconnect_of facility_verdict_of facility_call_of about_three_of passes_facility_of facility_of ticked_meters_of refills_of ready_of runs_of passes_tick_of tick_of release_complete_of ends_of
+unfolding steps_compute release_complete_of ends_of
 facts =
     record {
       before = refl;

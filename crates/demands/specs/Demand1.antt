@@ -2,9 +2,8 @@
 -- the paper; a refusal changes nothing except the one congestion mark, and sends nothing but for 14's and 16's message.
 -- That a number is one of the paper's follows from the types of the replies; which it is and when, `Reads` says of
 -- octet strings, `Table` and `AnswersExactly` of events.
-use Rattle.std.specs.Prelude.{Option, None}
+use Rattle.std.specs.Prelude.{Option, None, ℕ, ◌≤◌, List, ◌⊎◌, ◌≡◌, get_or, set}
 use Rattle.sent.specs.declared.Message.{Message}
-use Rattle.std.specs.Prelude.{ℕ, ◌≤◌, List, ◌⊎◌, ◌≡◌, get_or, set}
 use Rattle.sent.specs.declared.side.Side.{Side}
 use Rattle.event.specs.declared.Event.{Event}
 use Rattle.message_fields.specs.Numbers.{read_number}

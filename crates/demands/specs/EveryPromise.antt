@@ -2,69 +2,33 @@
 -- traces, with the instances that show that no premise is empty. One term inhabits it, so that none can be left out.
 use Rattle.call.specs.Step.{step_of}
 use Rattle.demands.specs.Demand1.{Demand1}
-use Rattle.demands.specs.Demands.{Demands}
-use Rattle.demands.specs.Demands.{Decided}
+use Rattle.demands.specs.Demands.{Demands, Decided}
 use Rattle.demands.specs.WrongCores.{WrongCores}
 use Rattle.demands.specs.OneReply.{OneReply}
 use Rattle.call_promises.specs.Numbers.{Core}
 use Rattle.call_promises.specs.Sends.{SendsExactly}
-use Rattle.call_promises.specs.Causes.{Causes}
-use Rattle.call_promises.specs.Causes.{OneCause}
-use Rattle.call_promises.specs.Causes.{TwentyNine}
+use Rattle.call_promises.specs.Causes.{Causes, OneCause, TwentyNine}
 use Rattle.octet_promises.specs.ReadingDemands.{OurReading}
 use Rattle.octet_promises.specs.OtherReaders.{ShiftsBind}
-use Rattle.octet_promises.specs.Promises.{WholeElement}
-use Rattle.octet_promises.specs.Promises.{Writes}
-use Rattle.octet_promises.specs.Promises.{RoundTrip as MessageRoundTrip}
-use Rattle.octet_promises.specs.Promises.{Alike}
-use Rattle.wire_promises.specs.Sending.{Sending}
-use Rattle.wire_promises.specs.Sending.{Apart}
+use Rattle.octet_promises.specs.Promises.{WholeElement, Writes, RoundTrip as MessageRoundTrip, Alike}
+use Rattle.wire_promises.specs.Sending.{Sending, Apart}
 use Rattle.wire_promises.specs.Samples.{Samples}
 use Rattle.wire_promises.specs.Marked.{Marked}
-use Rattle.call_promises.specs.LentMeter.{LentSpending}
-use Rattle.call_promises.specs.LentMeter.{LentTicking}
-use Rattle.table_promises.specs.Table.{Table}
-use Rattle.table_promises.specs.Table.{RefusalsKeep}
-use Rattle.table_promises.specs.Table.{OnePlace}
-use Rattle.table_promises.specs.Table.{Named}
-use Rattle.table_promises.specs.Table.{Fourteen}
+use Rattle.call_promises.specs.LentMeter.{LentSpending, LentTicking, LentMet}
+use Rattle.table_promises.specs.Table.{Table, RefusalsKeep, OnePlace, Named, Fourteen}
 use Rattle.table_promises.specs.Replies.{Replies}
-use Rattle.table_promises.specs.Halves.{Halves}
-use Rattle.table_promises.specs.Halves.{Stale}
-use Rattle.table_promises.specs.Alone.{Alone}
-use Rattle.capture.specs.Promises.{GoesOn as CaptureGoesOn}
-use Rattle.capture.specs.Promises.{LineEach}
-use Rattle.capture.specs.Promises.{Bounded as CaptureBounded}
-use Rattle.capture.specs.Promises.{WholeRun as CaptureWholeRun}
-use Rattle.capture.specs.Promises.{Always as CaptureAlways}
+use Rattle.table_promises.specs.Halves.{Halves, Stale, StaleMet}
+use Rattle.table_promises.specs.Alone.{Alone, AloneMet, Needed}
+use Rattle.capture.specs.Promises.{GoesOn as CaptureGoesOn, LineEach, Bounded as CaptureBounded, WholeRun as CaptureWholeRun, Always as CaptureAlways}
 use Rattle.trace_promises.specs.Records.{Records}
 use Rattle.trace_promises.specs.Names.{Names}
-use Rattle.trace_promises.specs.Means.{Kinds}
-use Rattle.trace_promises.specs.Means.{Means}
-use Rattle.trace_promises.specs.RoundTrip.{RoundTrip as TraceRoundTrip}
-use Rattle.trace_promises.specs.RoundTrip.{Fitting}
-use Rattle.trace_promises.specs.RoundTrip.{WrittenBack}
-use Rattle.trace_promises.specs.Heeded.{Heeded}
-use Rattle.trace_promises.specs.Heeded.{Places}
-use Rattle.trace_promises.specs.WholeRun.{GoesOn as TraceGoesOn}
-use Rattle.trace_promises.specs.WholeRun.{Bounded as TraceBounded}
-use Rattle.trace_promises.specs.WholeRun.{WholeRun as TraceWholeRun}
-use Rattle.trace_promises.specs.WholeRun.{Always as TraceAlways}
-use Rattle.call_cases.specs.Instances.{Instances}
-use Rattle.call_cases.specs.Instances.{Reached}
-use Rattle.call_cases.specs.Instances.{Broken}
-use Rattle.call_cases.specs.Instances.{Example}
-use Rattle.call_cases.specs.Instances.{Cleared}
-use Rattle.call_cases.specs.Instances.{TwentyNineMet}
-use Rattle.call_cases.specs.MoreInstances.{MoreInstances}
-use Rattle.call_cases.specs.MoreInstances.{NoneLeftOut}
-use Rattle.call_cases.specs.MoreInstances.{CreditShown}
-use Rattle.call_cases.specs.Handed.{ElementsHanded}
-use Rattle.call_cases.specs.Handed.{ServicesHeld}
-use Rattle.call_promises.specs.LentMeter.{LentMet}
-use Rattle.table_promises.specs.Alone.{AloneMet}
-use Rattle.table_promises.specs.Alone.{Needed}
-use Rattle.table_promises.specs.Halves.{StaleMet}
+use Rattle.trace_promises.specs.Means.{Kinds, Means}
+use Rattle.trace_promises.specs.RoundTrip.{RoundTrip as TraceRoundTrip, Fitting, WrittenBack}
+use Rattle.trace_promises.specs.Heeded.{Heeded, Places}
+use Rattle.trace_promises.specs.WholeRun.{GoesOn as TraceGoesOn, Bounded as TraceBounded, WholeRun as TraceWholeRun, Always as TraceAlways}
+use Rattle.call_cases.specs.Instances.{Instances, Reached, Broken, Example, Cleared, TwentyNineMet}
+use Rattle.call_cases.specs.MoreInstances.{MoreInstances, NoneLeftOut, CreditShown}
+use Rattle.call_cases.specs.Handed.{ElementsHanded, ServicesHeld}
 use Rattle.trace_promises.specs.Instances.{TraceMet}
 
 pub record EveryPromise : Type 1 where

@@ -1,9 +1,8 @@
 -- "Any two replies it allows are shown equal." A public contract has one of six forms, and of each form: two results
 -- of one input that meet it are the same, and so is every octet and record that was lent. Which function has which form
 -- is listed in docs/made/CONTRACTS.md.
-use Rattle.std.specs.Prelude.{Result}
+use Rattle.std.specs.Prelude.{Result, ℕ, List, Bool, ◌≡◌}
 use Rattle.memory.specs.declared.Bar.{Bar}
-use Rattle.std.specs.Prelude.{ℕ, List, Bool, ◌≡◌}
 use Rattle.memory.specs.Room.{Written, Kept}
 use Rattle.text.specs.declared.octets.Reading.{Reading}
 use Rattle.text.specs.declared.octets.Spelt.{Spelt}

@@ -2,10 +2,9 @@
 -- refuses, has one fixed reply, sends nothing, or handles only SETUP and nods later"; and ours with its replies
 -- changed, so that the rule named is broken (by some of them another besides: what is changed is the reply, whatever
 -- the event was).
-use Rattle.std.specs.Prelude.{Option, Some, None}
+use Rattle.std.specs.Prelude.{Option, Some, None, ℕ, ◌+◌, List, Bool, true, false, cond, ◌&&◌, ◌||◌, eqb, ltb}
 use Rattle.services.specs.declared.ByService.{ByService}
 use Rattle.sent.specs.declared.side.BySide.{BySide}
-use Rattle.std.specs.Prelude.{ℕ, ◌+◌, List, Bool, true, false, cond, ◌&&◌, ◌||◌, eqb, ltb}
 use Rattle.rights.specs.declared.Service.{Service}
 use Rattle.services.specs.declared.Said.{Said}
 use Rattle.services.specs.declared.Standing.{Standing}

@@ -1,35 +1,43 @@
 -- How many octets a written record has, and what fits.
+use Rattle.std.specs.Prelude.{Some}
 use Prim.Native.Nat.{ℕ, ◌+◌, ◌≤◌}
 use mathlib.Core.List.{List}
-use mathlib.Core.Bool.{Bool, true, false, cond}
+use mathlib.Core.Bool.{Bool, true, false}
 use mathlib.Core.Path.{◌≡◌}
 use native.Mathlib.Omega.{arith}
 use borrow.Author.Tests.{eqb-true}
 use lib.ListN.{length, length-append, length-replicate}
 use Rattle.event.specs.declared.Event.{Event}
+use Rattle.trace.specs.declared.kind.RecordKind.{RecordKind}
+use Rattle.trace.specs.Kind.{layout_of, size_of}
 use Rattle.logic.proofs.Tests.{both}
 use Rattle.user_element.proofs.writable.Whole.{element_small}
-use Rattle.recorder.specs.Writing.{field_octets, kind_for, head_octets, fielded_of, event_fits_of, tail_fits_of, record_fits_of}
+use Rattle.recorder.specs.Writing.{field_octets, fielded_of, event_fits_of, tail_fits_of, record_fits_of}
 
 pub field_is : (u : List ℕ) → length u ≤ 131 → length (field_octets u) ≡ 132
 unfolding field_octets
 field_is u h = simp (length-append, length-replicate) (omega arith)
 
-pub head_small : (r : ℕ) (e : Event) → length (head_octets (kind_for e) r e) ≤ 12
-head_small r (Event.Setup n rights q) = omega arith
-head_small r (Event.Alerting a) = omega arith
-head_small r (Event.Connect a) = omega arith
-head_small r (Event.Information side more) = omega arith
-head_small r (Event.Facility side what) = omega arith
-head_small r (Event.Disconnect side cause a) = omega arith
-head_small r (Event.ReleaseComplete side) = omega arith
-head_small r Event.Tick = omega arith
-head_small r Event.CallProceeding = omega arith
-head_small r Event.CongestionControl = omega arith
+pub longest : (k : RecordKind) → size_of k ≤ 144
+longest RecordKind.Setup = omega arith
+longest RecordKind.Alerting = omega arith
+longest RecordKind.Connect = omega arith
+longest RecordKind.Information = omega arith
+longest RecordKind.Facility = omega arith
+longest RecordKind.Disconnect = omega arith
+longest RecordKind.ReleaseComplete = omega arith
+longest RecordKind.Tick = omega arith
 
-pub record_small : (has : Bool) (n : ℕ) → n ≤ 12 → cond has (n + 132) n ≤ 144
-record_small true n h = omega arith
-record_small false n h = omega arith
+-- an element field ends within the longest record
+pub field_within : (k : RecordKind) (p : ℕ) → (layout_of k).element ≡ Some p → p + 132 ≤ 144
+field_within RecordKind.Setup p e = let q : 12 ≡ p = cc in omega arith
+field_within RecordKind.Alerting p e = let q : 6 ≡ p = cc in omega arith
+field_within RecordKind.Connect p e = let q : 6 ≡ p = cc in omega arith
+field_within RecordKind.Information p e = let q : 4 ≡ p = cc in omega arith
+field_within RecordKind.Facility p e = let z : ◌≡◌ {A = ℕ} 0 1 = cc in absurd (omega arith)
+field_within RecordKind.Disconnect p e = let q : 8 ≡ p = cc in omega arith
+field_within RecordKind.ReleaseComplete p e = let z : ◌≡◌ {A = ℕ} 0 1 = cc in absurd (omega arith)
+field_within RecordKind.Tick p e = let z : ◌≡◌ {A = ℕ} 0 1 = cc in absurd (omega arith)
 
 tail_small : (has : Bool) (u : List ℕ) → tail_fits_of has u ≡ true → length u ≤ 131
 tail_small true u h = element_small u h

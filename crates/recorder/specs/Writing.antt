@@ -1,41 +1,12 @@
 -- A record written: the inverse of reading one.
-use Rattle.std.specs.Prelude.{Option, Some, None}
-use Rattle.std.specs.Prelude.{ℕ, ◌+◌, ◌-◌, ◌/◌, ◌%◌, List, [], ◌∷◌, ◌++◌, ◌≡◌, Bool, true, false, cond, not, ◌&&◌, length, take, set, replicate, ltb, eqb}
+use Rattle.std.specs.Prelude.{Option, Some, None, unwrap_or, is_some, ℕ, ◌+◌, ◌-◌, ◌/◌, ◌%◌, List, [], ◌∷◌, ◌++◌, Bool, true, false, not, ◌&&◌, length, set, replicate, ltb, eqb}
 use Rattle.user_element.specs.Writable.{element_fits_of}
 use Rattle.event.specs.declared.Event.{Event}
-use Rattle.facility_rules.specs.declared.What.{What}
 use Rattle.rights.specs.declared.Rights.{Rights}
-use Rattle.sent.specs.declared.side.Side.{Side}
-use Rattle.services.specs.declared.Given.{Given}
-use Rattle.services.specs.declared.Request.{Request}
 use Rattle.trace.specs.declared.kind.RecordKind.{RecordKind}
 use Rattle.trace.specs.declared.kind.Layout.{Layout}
 use Rattle.trace.specs.Kind.{layout_of}
-use Rattle.recorder.specs.declared.Head.{Head}
-
-abbrev pub flag_octet : Bool → ℕ
-flag_octet false = 0
-flag_octet true = 1
-
-abbrev pub side_octet : Side → ℕ
-side_octet Side.Calling = 0
-side_octet Side.Called = 1
-
-abbrev pub request_octet : Request → ℕ
-request_octet Request.Unasked = 0
-request_octet Request.Preferred = 1
-request_octet Request.Required = 2
-
-abbrev pub given_octet : Given → ℕ
-given_octet Given.Silent = 0
-given_octet Given.Accepted = 1
-given_octet Given.Rejected = 2
-
-abbrev pub what_octet : What → ℕ
-what_octet What.Preferred = 0
-what_octet What.Accept = 1
-what_octet What.Reject = 2
-what_octet What.Required = 3
+use Rattle.trace.specs.Values.{flag_octet, side_octet, request_octet, given_octet, what_octet}
 
 -- "n, the n octets, then zeros to 132 in all"
 unfoldable pub field_octets : List ℕ → List ℕ
@@ -54,16 +25,20 @@ kind_for Event.Tick = Some RecordKind.Tick
 kind_for Event.CallProceeding = None
 kind_for Event.CongestionControl = None
 
+-- an octet put into a record, so many after the place of a field; none where a kind has no such field
+abbrev pub set_in : Option ℕ → ℕ → ℕ → List ℕ → List ℕ
+set_in None i x o = o
+set_in (Some p) i x o = set o (p + i) x
+
 -- three octets put into a record from a place on
-abbrev pub three_in : ℕ → ℕ → ℕ → ℕ → List ℕ → List ℕ
-three_in p a b c o = set (set (set o p a) (p + 1) b) (p + 2) c
+abbrev pub three_in : Option ℕ → ℕ → ℕ → ℕ → List ℕ → List ℕ
+three_in p a b c o = set_in p 2 c (set_in p 1 b (set_in p 0 a o))
 
 -- "services, late, leave, limit, X, Y"
-abbrev pub rights_in : ℕ → Rights → List ℕ → List ℕ
+abbrev pub rights_in : Option ℕ → Rights → List ℕ → List ℕ
 rights_in p r o =
-    set
-    (set (set (three_in p r.services (flag_octet r.late) (flag_octet r.leave) o) (p + 3) r.limit) (p + 4) (r.burst % 256))
-    (p + 5) (r.refill % 256)
+    set_in p 5 (r.refill % 256)
+    (set_in p 4 (r.burst % 256) (set_in p 3 r.limit (three_in p r.services (flag_octet r.late) (flag_octet r.leave) o)))
 
 -- the fields of an event, each put into a record at its place
 abbrev pub fields_in : Event → Layout → List ℕ → List ℕ
@@ -71,18 +46,18 @@ fields_in (Event.Setup n rights q) l o =
     three_in l.requests (request_octet q.one) (request_octet q.two) (request_octet q.three) (rights_in l.rights rights o)
 fields_in (Event.Alerting a) l o = three_in l.answers (given_octet a.one) (given_octet a.two) (given_octet a.three) o
 fields_in (Event.Connect a) l o = three_in l.answers (given_octet a.one) (given_octet a.two) (given_octet a.three) o
-fields_in (Event.Information side more) l o = set o l.side (side_octet side)
-fields_in (Event.Facility side what) l o = set (set o l.side (side_octet side)) l.what (what_octet what)
+fields_in (Event.Information side more) l o = set_in l.side 0 (side_octet side) o
+fields_in (Event.Facility side what) l o = set_in l.what 0 (what_octet what) (set_in l.side 0 (side_octet side) o)
 fields_in (Event.Disconnect side cause a) l o =
-    three_in l.answers (given_octet a.one) (given_octet a.two) (given_octet a.three) (set (set o l.side (side_octet side)) l.cause cause)
-fields_in (Event.ReleaseComplete side) l o = set o l.side (side_octet side)
+    three_in l.answers (given_octet a.one) (given_octet a.two) (given_octet a.three) (set_in l.cause 0 cause (set_in l.side 0 (side_octet side) o))
+fields_in (Event.ReleaseComplete side) l o = set_in l.side 0 (side_octet side) o
 fields_in Event.Tick l o = o
 fields_in Event.CallProceeding l o = o
 fields_in Event.CongestionControl l o = o
 
 -- where the element field begins, or the record ends that has none
 abbrev pub head_of : Layout → ℕ
-head_of l = cond (eqb l.element 0) l.size l.element
+head_of l = unwrap_or l.element l.size
 
 -- the octet of kind, the reference, and zeros up to there, with the fields at their places
 abbrev pub head_as : RecordKind → ℕ → Event → List ℕ
@@ -92,15 +67,10 @@ abbrev pub head_octets : Option RecordKind → ℕ → Event → List ℕ
 head_octets None r e = []
 head_octets (Some k) r e = head_as k r e
 
--- a head whose first octets, so many as it says, are these
-pub record Holds (h : Head) (o : List ℕ) : Type 0 where
-  pub size : h.size ≡ length o
-  pub octets : take h.size h.octets ≡ o
-
 -- whether a record of the kind has an element field
 abbrev pub has_element : Option RecordKind → Bool
 has_element None = false
-has_element (Some k) = not (eqb (layout_of k).element 0)
+has_element (Some k) = is_some (layout_of k).element
 
 abbrev pub fielded_of : Event → Bool
 fielded_of e = has_element (kind_for e)

@@ -1,8 +1,7 @@
 -- An event at the table in two halves: what the table shows of it, and what is then put there.
-use Rattle.std.specs.Prelude.{Option, Some, None, Result, Ok, Err}
+use Rattle.std.specs.Prelude.{Option, Some, None, Result, Ok, Err, ℕ, List, get_or, set}
 use Rattle.table.specs.declared.verdict.Verdict.{Verdict}
 use Rattle.table.specs.declared.plan.Seat.{Seat}
-use Rattle.std.specs.Prelude.{ℕ, List, get_or, set}
 use Rattle.call.specs.declared.Call.{Call}
 use Rattle.event.specs.declared.Event.{Event}
 use Rattle.call.specs.Sound.{fresh_call}

@@ -1,4 +1,3 @@
-pub mod First
 pub mod Table
 pub mod Halves
 pub mod Step

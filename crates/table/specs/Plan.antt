@@ -1,21 +1,10 @@
 -- What an event makes of the table, by value: what is put there, and what is answered.
-use Rattle.std.specs.Prelude.{Option, Some, None, Result, Ok, Err}
+use Rattle.std.specs.Prelude.{Some, None, Result, Ok, Err, ℕ, List}
 use Rattle.table.specs.declared.plan.Seat.{Seat}
 use Rattle.table.specs.declared.verdict.Verdict.{Verdict}
-use Rattle.std.specs.Prelude.{ℕ, List}
-use Rattle.call.specs.declared.Call.{Call}
-use Rattle.call.specs.Sound.{fresh_call}
 use Rattle.event.specs.declared.Event.{Event}
 use Rattle.table.specs.declared.plan.Plan.{Plan}
 use Rattle.table.specs.Settle.{settled_of, table_refusal_of}
-
-abbrev pub row_of : Option Seat → ℕ → ℕ
-row_of (Some s) end = s.place
-row_of None end = end
-
-abbrev pub record_of : Option Seat → Call
-record_of (Some s) = s.call
-record_of None = fresh_call
 
 -- a number of the table's puts nothing
 abbrev pub plan_of : Result Seat Verdict → Event → List ℕ → Plan

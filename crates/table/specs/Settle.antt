@@ -1,5 +1,5 @@
 -- What an event makes of the record that it goes to.
-use Rattle.std.specs.Prelude.{ℕ, Bool, true, false, cond, List}
+use Rattle.std.specs.Prelude.{ℕ, Bool, true, false, cond, List, Option}
 use Rattle.user_element.specs.declared.Note.{Note}
 use Rattle.answer.specs.declared.Answer.{Answer}
 use Rattle.sent.specs.Dispatch.{nothing_sent}
@@ -9,13 +9,13 @@ use Rattle.call.specs.declared.reply.Reply.{Reply}
 use Rattle.call.specs.Sound.{fresh_call}
 use Rattle.call.specs.Step.{step_of}
 use Rattle.table.specs.declared.verdict.Verdict.{Verdict}
-use Rattle.table.specs.declared.choice.Wanted.{Wanted}
+use Rattle.table.specs.declared.choice.Opening.{Opening}
 use Rattle.table.specs.declared.settle.Outcome.{Outcome}
 use Rattle.table.specs.declared.settle.Settled.{Settled}
 use Rattle.table.specs.Choice.{wanted_of, is_new}
 
 -- "SETUP fills the whole record, used for one call": it starts from a fresh one
-unfoldable pub subject_of : Call → Wanted → Call
+unfoldable pub subject_of : Call → Option Opening → Call
 subject_of c w = cond (is_new w) fresh_call c
 
 -- "11 to 25 change no call, meter or table .., except: 14 may set the not-ready mark"

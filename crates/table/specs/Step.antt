@@ -1,7 +1,6 @@
 -- An event at the table: what is answered, and the records afterwards.
-use Rattle.std.specs.Prelude.{Result, Ok, Err}
+use Rattle.std.specs.Prelude.{Result, Ok, Err, ℕ, List, get_or, set}
 use Rattle.table.specs.declared.verdict.Verdict.{Verdict}
-use Rattle.std.specs.Prelude.{ℕ, List, get_or, set}
 use Rattle.call.specs.declared.Call.{Call}
 use Rattle.event.specs.declared.Event.{Event}
 use Rattle.call.specs.Sound.{fresh_call}

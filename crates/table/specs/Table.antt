@@ -1,6 +1,5 @@
 -- The table looked through: the live record of a reference, the lowest free place, and number 25.
-use Rattle.std.specs.Prelude.{Option, Some, None}
-use Rattle.std.specs.Prelude.{ℕ, ◌+◌, Bool, true, false, cond, not, ◌&&◌, ◌||◌, List, [], ◌∷◌, leb, length}
+use Rattle.std.specs.Prelude.{Option, Some, None, ℕ, ◌+◌, Bool, true, false, cond, not, ◌&&◌, ◌||◌, List, [], ◌∷◌, leb, length}
 use Rattle.call.specs.declared.Call.{Call}
 use Rattle.call.specs.Sound.{sound_of}
 use Rattle.phases.specs.Phase.{live_of}

@@ -1,97 +1,53 @@
 // Which record an event goes to, or the number that the table gives.
 ghost use Rattle.std.specs.Prelude.{◌≡◌};
-ghost use Rattle.table.specs.Choice.{wanted_of, own_or, is_new, new_place_of, old_place_of, choose_of};
+ghost use Rattle.table.specs.Choice.{wanted_of, chosen_of};
 
 use crate::verdict::Verdict;
+use crate::{find, place, sound};
 use answer::Answer;
+use call::Call;
 use event::Event;
 use rights::{reference_fits, rights_fit};
 
-// What an event wants of the table: SETUP a new place, under its own reference, with reference and rights in range or
-// not; any other event the place of a call that is there.
+// What SETUP asks for: a new place, under its own reference, with reference and rights in range or not. ranged is a
+// flag beside the reference and no Result over it: `meant_reference_of` is the reference of a SETUP in either case.
 #[derive(Clone, Copy)]
-pub enum Wanted {
-    New(u16, bool),
-    Old,
+pub struct Opening {
+    pub reference: u16,
+    pub ranged: bool,
 }
 
-pub(crate) fn wants(event: Event) -> Wanted
+// The opening that an event asks for. Any event but SETUP wants the place of a call that is there.
+fn wants(event: Event) -> Option<Opening>
     ensures { result ≡ wanted_of event }
 {
     match event {
         Event::Setup {
             reference,
             rights,
-            requests,
-        } => Wanted::New(reference, reference_fits(reference) & rights_fit(rights)),
-        _ => Wanted::Old,
+            ..
+        } => Some(Opening {
+            reference,
+            ranged: reference_fits(reference) && rights_fit(rights),
+        }),
+        _ => None,
     }
 }
 
-// The reference that an event is about, beside which `reference` stands: SETUP has its own.
-pub(crate) fn reference_of(reference: u16, wanted: Wanted) -> u16
-    ensures { result ≡ own_or reference wanted }
+// What the table says of an event.
+#[tactic(auto, unfolding(crate::specs::Choice::choose_of, crate::specs::Choice::chosen_of))]
+pub(crate) fn chosen(t: &[Call], reference: u16, event: Event) -> Result<usize, Verdict>
+    ensures { result ≡ chosen_of t.now reference event }
 {
-    match wanted {
-        Wanted::New(own, ranged) => own,
-        Wanted::Old => reference,
+    if !sound(t) {
+        return Err(Verdict::Heard(Answer::Unsound));
     }
-}
-
-// SETUP opens a call.
-pub(crate) fn opens(wanted: Wanted) -> bool
-    ensures { result ≡ is_new wanted }
-{
-    match wanted {
-        Wanted::New(own, ranged) => true,
-        Wanted::Old => false,
-    }
-}
-
-// A SETUP in range: 22, 21, or the lowest free place.
-fn new_place(held: Option<usize>, free: Option<usize>) -> Result<usize, Verdict>
-    ensures { result ≡ new_place_of held free }
-{
-    match held {
-        Some(i) => Err(Verdict::Held),
-        None => match free {
-            Some(i) => Ok(i),
-            None => Err(Verdict::NoPlace),
+    match wants(event) {
+        Some(opening) if !opening.ranged => Err(Verdict::Heard(Answer::OutOfRange)),
+        Some(opening) => match find(t, opening.reference) {
+            Some(_) => Err(Verdict::Held),
+            None => place(t).ok_or(Verdict::NoPlace),
         },
-    }
-}
-
-// Any other event: 23, or the live call's place.
-fn old_place(held: Option<usize>) -> Result<usize, Verdict>
-    ensures { result ≡ old_place_of held }
-{
-    match held {
-        Some(i) => Ok(i),
-        None => Err(Verdict::NoCall),
-    }
-}
-
-#[tactic(auto, unfolding(crate::specs::Choice::choose_of))]
-pub(crate) fn choose(
-    whole: bool,
-    wanted: Wanted,
-    held: Option<usize>,
-    free: Option<usize>,
-) -> Result<usize, Verdict>
-    ensures { result ≡ choose_of whole wanted held free }
-{
-    if whole {
-        match wanted {
-            Wanted::New(own, ranged) => {
-                if ranged {
-                    new_place(held, free)
-                } else {
-                    Err(Verdict::Heard(Answer::OutOfRange))
-                }
-            }
-            Wanted::Old => old_place(held),
-        }
-    } else {
-        Err(Verdict::Heard(Answer::Unsound))
+        None => find(t, reference).ok_or(Verdict::NoCall),
     }
 }

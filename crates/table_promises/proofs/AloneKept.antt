@@ -1,6 +1,7 @@
 -- A step keeps the reference of a call, and its fields in range.
 use Rattle.services.specs.declared.ByService.{ByService}
 use Rattle.services.specs.declared.Request.{Request}
+use Rattle.std.specs.Prelude.{Option, Some, None}
 use Prim.Native.Nat.{ℕ}
 use mathlib.Core.List.{List}
 use mathlib.Core.Bool.{true, false, ◌&&◌}
@@ -20,7 +21,7 @@ use Rattle.table.specs.Settle.{subject_of, changes_of, record_kept_of, settled_o
 use Rattle.logic.proofs.Decide.{never, by_cond, both}
 use Rattle.call_promises.proofs.Kept.{NotSetup, Follows, same, step_in, setup_in}
 use Rattle.call_promises.proofs.Ranges.{reference_range, rights_range}
-use Rattle.table.specs.declared.choice.Wanted.{Wanted}
+use Rattle.table.specs.declared.choice.Opening.{Opening}
 
 -- an event that does not open a call is no SETUP
 not_setup : (e : Event) → opens_of e ≡ false → NotSetup e
@@ -58,9 +59,9 @@ module _ (c : Call) (m reference : ℕ) (rights : Rights) (q : ByService Request
       }
 
 -- an event that does not open a call is about the reference beside it
-pub own_reference : (n : ℕ) (w : Wanted) → is_new w ≡ false → own_or n w ≡ n
-own_reference n (Wanted.New own ranged) e = never refl e
-own_reference n Wanted.Old e = refl
+pub own_reference : (n : ℕ) (w : Option Opening) → is_new w ≡ false → own_or n w ≡ n
+own_reference n (Some o) e = never refl e
+own_reference n None e = refl
 
 -- what holds of every SETUP holds of an event that opens a call
 pub of_setup : (P : Event → Type 0) → ((reference : ℕ) (rights : Rights) (q : ByService Request) → P (Event.Setup reference rights q)) → (e : Event) → opens_of e ≡ true → P e

@@ -28,8 +28,9 @@ pub halves : Halves
 halves t n e element = record { outcome = plan_told t n e element; table = plan_put t n e element }
 
 puts : (s : List Call) (p : Option Seat) → Puts s (committed s p) p
-puts s (Some (record { place = i; call = c })) =
-    somewhere (λ h. get_or-set_same s i c fresh_call h) (λ j n. get_or-set_other s i j c fresh_call n) (length-set s i c)
+puts s (Some p) =
+    somewhere {i = p.place} {c = p.call} (λ h. get_or-set_same s p.place p.call fresh_call h) (λ j n. get_or-set_other s p.place j p.call fresh_call n)
+    (length-set s p.place p.call)
 puts s None = nowhere refl
 
 pub stale : Stale

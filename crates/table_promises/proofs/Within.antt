@@ -44,7 +44,7 @@ pub same_found : (i j : ℕ) → Some i ≡ Some j → i ≡ j
 unfolding found_number
 same_found i j e = ap found_number e
 
-pub same_chosen : (i j : ℕ) → Ok i ≡ Ok j → i ≡ j
+pub same_chosen : (i j : ℕ) → ◌≡◌ {A = Result ℕ Verdict} (Ok i) (Ok j) → i ≡ j
 unfolding chosen_number
 same_chosen i j e = ap chosen_number e
 

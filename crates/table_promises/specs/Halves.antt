@@ -1,8 +1,7 @@
 -- An event at the table in halves: `look`, `plans` and `commit`, for a host that has something to do between the answer
 -- and the change.
-use Rattle.std.specs.Prelude.{Option, Some, None}
+use Rattle.std.specs.Prelude.{Option, Some, None, ℕ, ◌<◌, List, [], ◌∷◌, ◌≡◌, length, get_or}
 use Rattle.table.specs.declared.plan.Seat.{Seat}
-use Rattle.std.specs.Prelude.{ℕ, ◌<◌, List, [], ◌∷◌, ◌≡◌, length, get_or}
 use Rattle.call.specs.declared.Call.{Call}
 use Rattle.event.specs.declared.Event.{Event}
 use Rattle.call.specs.Sound.{fresh_call}

@@ -1,9 +1,8 @@
 -- What is sent at the table, and what a taken event leaves there. `AloneMet` in Alone.antt computes runs with events
 -- that the table refuses (21, 22, 23), that the call refuses (13) and that are taken.
-use Rattle.std.specs.Prelude.{None}
+use Rattle.std.specs.Prelude.{None, ℕ, false, cond, List, ◌≡◌, get_or}
 use Rattle.services.specs.declared.ByService.{ByService}
 use Rattle.services.specs.declared.Request.{Request}
-use Rattle.std.specs.Prelude.{ℕ, false, cond, List, ◌≡◌, get_or}
 use Rattle.rights.specs.declared.Rights.{Rights}
 use Rattle.user_element.specs.Element.{note_number_of}
 use Rattle.answer.specs.Answer.{number_of}

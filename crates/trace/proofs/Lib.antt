@@ -1,3 +1,4 @@
 pub mod Blank
+pub mod First
 pub mod Naming
 pub mod Rows

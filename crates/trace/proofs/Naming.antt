@@ -13,11 +13,5 @@ use Rattle.trace.specs.Ranges.{first_out_of}
 use Rattle.trace.specs.Reading.{entry_of, named_of}
 
 module _ (k : RecordKind) (t : List ℕ) where
-  pub named_short : length t < size_of k → Some (Err Fault.Short) ≡ named_of (Some k) t
-  named_short h = simp (lt-ltb (length t) (size_of k) h)
-
   pub named_taken : size_of k ≤ length t → first_out_of (layout_of k) t ≡ None → Some (Ok (entry_of k t)) ≡ named_of (Some k) t
   named_taken h e = simp (le-ltb (length t) (size_of k) h, e)
-
-  pub named_range : (f : Field) → size_of k ≤ length t → first_out_of (layout_of k) t ≡ Some f → Some (Err (Fault.Range f)) ≡ named_of (Some k) t
-  named_range f h e = simp (le-ltb (length t) (size_of k) h, e)

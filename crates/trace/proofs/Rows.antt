@@ -14,14 +14,3 @@ least RecordKind.Facility = omega arith
 least RecordKind.Disconnect = omega arith
 least RecordKind.ReleaseComplete = omega arith
 least RecordKind.Tick = omega arith
-
--- an element field stands near the front
-pub early : (k : RecordKind) → (layout_of k).element ≤ 12
-early RecordKind.Setup = omega arith
-early RecordKind.Alerting = omega arith
-early RecordKind.Connect = omega arith
-early RecordKind.Information = omega arith
-early RecordKind.Facility = omega arith
-early RecordKind.Disconnect = omega arith
-early RecordKind.ReleaseComplete = omega arith
-early RecordKind.Tick = omega arith

@@ -1,6 +1,5 @@
 -- The first field of a record that is out of range.
-use Rattle.std.specs.Prelude.{Option, Some, None}
-use Rattle.std.specs.Prelude.{ℕ, ◌+◌, List, cond, get_or, ltb, eqb}
+use Rattle.std.specs.Prelude.{Option, Some, None, ℕ, ◌+◌, List, cond, get_or, ltb}
 use Rattle.rights.specs.declared.Service.{Service}
 use Rattle.trace.specs.declared.Field.{Field}
 use Rattle.trace.specs.declared.kind.Layout.{Layout}
@@ -11,20 +10,21 @@ abbrev pub first_of : Option Field → Option Field → Option Field
 first_of None b = b
 first_of (Some f) b = Some f
 
--- octet i of the field at a place, held to the most that it may be; a kind without the field has it at 0
-unfoldable pub up_to_of : Field → ℕ → ℕ → ℕ → List ℕ → Option Field
-up_to_of f most place i t =
-    cond (eqb place 0) None (cond (ltb most (get_or t (place + i) 0)) (Some f) None)
+-- octet i of the field at a place, held to the most that it may be, where a kind has the field
+unfoldable pub up_to_of : Field → ℕ → Option ℕ → ℕ → List ℕ → Option Field
+up_to_of f most None i t = None
+up_to_of f most (Some p) i t = cond (ltb most (get_or t (p + i) 0)) (Some f) None
 
-unfoldable pub three_of : (Service → Field) → ℕ → List ℕ → Option Field
+unfoldable pub three_of : (Service → Field) → Option ℕ → List ℕ → Option Field
 three_of f place t =
     first_of (up_to_of (f Service.One) 2 place 0 t)
     (first_of (up_to_of (f Service.Two) 2 place 1 t) (up_to_of (f Service.Three) 2 place 2 t))
 
-unfoldable pub element_out_of : ℕ → List ℕ → Option Field
-element_out_of place t =
-    cond (form_fits_of place t)
-    (cond (zeros_fit_of place t) None (Some Field.Zeros))
+unfoldable pub element_out_of : Option ℕ → List ℕ → Option Field
+element_out_of None t = None
+element_out_of (Some p) t =
+    cond (form_fits_of p t)
+    (cond (zeros_fit_of p t) None (Some Field.Zeros))
     (Some Field.Element)
 
 -- "33: late, leave or side over 1, request or answer over 2, what over 3, cause over 127, element field not of that

@@ -2,25 +2,15 @@
 ghost use Rattle.std.specs.Prelude.{◌≡◌, drop};
 ghost use Rattle.trace.specs.ElementField.{blank_of, form_fits_of, zeros_fit_of};
 
+use crate::kind::FIELD;
 use crate::values::octet_at;
-use memory::octet::wide;
 use memory::stretch::stretch;
-
-// The octets that an element field has.
-const FIELD: usize = 132;
 
 // Whether every octet from a place on is zero.
 fn blank(s: &[u8], from: usize) -> bool
     ensures { result ≡ blank_of (drop from s.now) }
 {
-    let mut i = from;
-    while i < s.len() {
-        if s[i] != 0 {
-            return false;
-        }
-        i += 1;
-    }
-    true
+    s.iter().skip(from).all(|x| *x == 0)
 }
 
 // Whether the element field at a place is n octets, beginning 126 and n - 2, or says that there are none.
@@ -28,17 +18,12 @@ fn blank(s: &[u8], from: usize) -> bool
 pub(crate) fn form_fits(t: &[u8], p: usize) -> bool
     ensures { result ≡ form_fits_of p t.now }
 {
-    if p == 0 {
-        return true;
-    }
-    let n = wide(octet_at(t, p, 0));
+    let n = octet_at(t, p, 0);
     if n < 2 {
-        return n == 0;
+        n == 0
+    } else {
+        n <= 131 && octet_at(t, p, 1) == 126 && octet_at(t, p, 2) == n - 2
     }
-    if n > 131 {
-        return false;
-    }
-    (octet_at(t, p, 1) == 126) & (wide(octet_at(t, p, 2)) == n - 2)
 }
 
 // Whether zeros follow the octets of the element field at a place.
@@ -46,10 +31,5 @@ pub(crate) fn form_fits(t: &[u8], p: usize) -> bool
 pub(crate) fn zeros_fit(t: &[u8], p: usize) -> bool
     ensures { result ≡ zeros_fit_of p t.now }
 {
-    if p == 0 {
-        return true;
-    }
-    let n = wide(octet_at(t, p, 0));
-    let field = stretch(t, p, FIELD);
-    blank(field, n + 1)
+    blank(stretch(t, p, FIELD), usize::from(octet_at(t, p, 0)) + 1)
 }

@@ -1,22 +1,21 @@
 // A record of a trace, read: its event, and its element as a part of the trace; numbers 31 to 33.
 #![tactic(auto)]
 
-ghost use Rattle.std.specs.Prelude.{◌≡◌};
-ghost use Rattle.trace.specs.Reading.{record_reference_of, rights_of, named_of, requests_of, answers_of, event_of, count_of, entry_of, record_of, element_of};
+ghost use Rattle.std.specs.Prelude.{◌≡◌, Some};
+ghost use Rattle.trace.specs.Reading.{record_reference_of, rights_of, named_of, three_said, event_of, entry_of, record_of, element_of};
 
-use crate::kind::{Layout, RecordKind, layout_of, record_kind_in, size};
+use crate::kind::{Layout, RecordKind, layout_of, size};
 use crate::ranges::first_out;
-use crate::values::{flag_in, given_in, octet_at, request_in, side_in, what_in};
+use crate::values::{InOctet, octet_at, octet_in, said_in};
 use event::Event;
-use memory::octet::{wide, wide16};
 use memory::stretch::stretch;
 use rights::{Rights, Service};
-use services::{ByService, Given, Request};
+use services::ByService;
 
 mod element_field;
 pub mod kind;
 pub mod ranges;
-mod values;
+pub mod values;
 
 // The fields that have a range. Element: how many octets, and the two that an element begins with; Zeros: what follows
 // an element in its field.
@@ -41,61 +40,49 @@ pub enum Fault {
     Range(Field),
 }
 
-// at: where the element's octets begin in the record; count: how many there are, 0 for absent.
+// A record that is whole and in range: its event, without the element.
 #[derive(Clone, Copy)]
 pub struct Entry {
     pub kind: RecordKind,
     pub reference: u16,
     pub event: Event,
-    pub at: usize,
-    pub count: usize,
 }
 
 #[tactic(auto, unfolding(crate::specs::Reading::record_reference_of))]
 fn reference(t: &[u8]) -> u16
     ensures { result ≡ record_reference_of t.now }
 {
-    wide16(octet_at(t, 1, 0)) * 256 + wide16(octet_at(t, 2, 0))
+    u16::from_be_bytes([octet_at(t, 1, 0), octet_at(t, 2, 0)])
 }
 
 // Six octets from a place on.
 #[tactic(auto, unfolding(crate::specs::Reading::rights_of))]
-fn rights(t: &[u8], p: usize) -> Rights
+fn rights(t: &[u8], p: Option<usize>) -> Rights
     ensures { result ≡ rights_of p t.now }
 {
     Rights {
-        services: octet_at(t, p, 0),
-        late: flag_in(octet_at(t, p, 1)),
-        leave: flag_in(octet_at(t, p, 2)),
-        limit: octet_at(t, p, 3),
-        burst: wide16(octet_at(t, p, 4)),
-        refill: wide16(octet_at(t, p, 5)),
+        services: octet_in(t, p, 0),
+        late: said_in(t, p, 1),
+        leave: said_in(t, p, 2),
+        limit: octet_in(t, p, 3),
+        burst: u16::from(octet_in(t, p, 4)),
+        refill: u16::from(octet_in(t, p, 5)),
     }
 }
 
-#[tactic(auto, unfolding(crate::specs::Reading::requests_of))]
-fn requests(t: &[u8], p: usize) -> ByService<Request>
-    ensures { result ≡ requests_of p t.now }
+// Three octets from a place on, one for each service.
+fn three<V: InOctet>(t: &[u8], p: Option<usize>) -> ByService<V>
+    ensures { result ≡ three_said V.said p t.now }
 {
     ByService {
-        one: request_in(octet_at(t, p, 0)),
-        two: request_in(octet_at(t, p, 1)),
-        three: request_in(octet_at(t, p, 2)),
-    }
-}
-
-#[tactic(auto, unfolding(crate::specs::Reading::answers_of))]
-fn answers(t: &[u8], p: usize) -> ByService<Given>
-    ensures { result ≡ answers_of p t.now }
-{
-    ByService {
-        one: given_in(octet_at(t, p, 0)),
-        two: given_in(octet_at(t, p, 1)),
-        three: given_in(octet_at(t, p, 2)),
+        one: said_in(t, p, 0),
+        two: said_in(t, p, 1),
+        three: said_in(t, p, 2),
     }
 }
 
 // The event of a record, its fields where the layout has them.
+#[tactic(auto, unfolding(crate::specs::Reading::requests_of, crate::specs::Reading::answers_of))]
 fn event(k: RecordKind, l: Layout, t: &[u8]) -> Event
     ensures { result ≡ event_of k l t.now }
 {
@@ -103,68 +90,54 @@ fn event(k: RecordKind, l: Layout, t: &[u8]) -> Event
         RecordKind::Setup => Event::Setup {
             reference: reference(t),
             rights: rights(t, l.rights),
-            requests: requests(t, l.requests),
+            requests: three(t, l.requests),
         },
         RecordKind::Alerting => Event::Alerting {
-            answers: answers(t, l.answers),
+            answers: three(t, l.answers),
         },
         RecordKind::Connect => Event::Connect {
-            answers: answers(t, l.answers),
+            answers: three(t, l.answers),
         },
         RecordKind::Information => Event::Information {
-            side: side_in(octet_at(t, l.side, 0)),
+            side: said_in(t, l.side, 0),
             more: false,
         },
         RecordKind::Facility => Event::Facility {
-            side: side_in(octet_at(t, l.side, 0)),
-            what: what_in(octet_at(t, l.what, 0)),
+            side: said_in(t, l.side, 0),
+            what: said_in(t, l.what, 0),
         },
         RecordKind::Disconnect => Event::Disconnect {
-            side: side_in(octet_at(t, l.side, 0)),
-            cause: octet_at(t, l.cause, 0),
-            answers: answers(t, l.answers),
+            side: said_in(t, l.side, 0),
+            cause: octet_in(t, l.cause, 0),
+            answers: three(t, l.answers),
         },
         RecordKind::ReleaseComplete => Event::ReleaseComplete {
-            side: side_in(octet_at(t, l.side, 0)),
+            side: said_in(t, l.side, 0),
         },
         RecordKind::Tick => Event::Tick,
     }
 }
 
-// How many octets the element has whose number stands at a place.
-#[tactic(auto, unfolding(crate::specs::Reading::count_of))]
-fn count(t: &[u8], p: usize) -> usize
-    ensures { result ≡ count_of p t.now }
-{
-    if p == 0 {
-        return 0;
-    }
-    wide(octet_at(t, p, 0))
-}
-
 #[tactic(auto, unfolding(crate::specs::Reading::entry_of))]
-fn taken(k: RecordKind, t: &[u8]) -> Entry
-    ensures { result ≡ entry_of k t.now }
+fn taken(kind: RecordKind, t: &[u8]) -> Entry
+    ensures { result ≡ entry_of kind t.now }
 {
-    let l = layout_of(k);
     Entry {
-        kind: k,
+        kind,
         reference: reference(t),
-        event: event(k, l, t),
-        at: l.element + 1,
-        count: count(t, l.element),
+        event: event(kind, layout_of(kind), t),
     }
 }
 
-fn read_kind(k: RecordKind, t: &[u8]) -> Option<Result<Entry, Fault>>
-    ensures { result ≡ named_of (Some k) t.now }
+fn read_kind(k: RecordKind, t: &[u8]) -> Result<Entry, Fault>
+    ensures { Some result ≡ named_of (Some k) t.now }
 {
     if t.len() < size(k) {
-        return Some(Err(Fault::Short));
+        return Err(Fault::Short);
     }
     match first_out(layout_of(k), t) {
-        None => Some(Ok(taken(k, t))),
-        Some(f) => Some(Err(Fault::Range(f))),
+        None => Ok(taken(k, t)),
+        Some(f) => Err(Fault::Range(f)),
     }
 }
 
@@ -173,21 +146,17 @@ fn read_kind(k: RecordKind, t: &[u8]) -> Option<Result<Entry, Fault>>
 pub fn read_record(t: &[u8]) -> Option<Result<Entry, Fault>>
     ensures { result ≡ record_of t.now }
 {
-    if t.len() == 0 {
-        return None;
-    }
-    match record_kind_in(t[0]) {
-        None => Some(Err(Fault::Kind)),
-        Some(k) => read_kind(k, t),
-    }
+    let octet = *t.first()?;
+    Some(RecordKind::try_from(octet).and_then(|k| read_kind(k, t)))
 }
 
 // The element of a record, as the very part of the trace; empty where there is none.
 #[tactic(auto, unfolding(crate::specs::Reading::element_of))]
-pub fn element<'a>(t: &'a [u8], e: Entry) -> &'a [u8]
+pub fn element(t: &[u8], e: Entry) -> &[u8]
     ensures { result.now ≡ element_of e t.now }
 {
-    let at = e.at;
-    let count = e.count;
-    stretch(t, at, count)
+    match layout_of(e.kind).element {
+        Some(p) => stretch(t, p + 1, usize::from(octet_at(t, p, 0))),
+        None => &[],
+    }
 }

@@ -19,7 +19,7 @@ use Rattle.trace.specs.declared.kind.Layout.{Layout}
 use Rattle.trace.specs.Kind.{record_kind_of, layout_of, size_of}
 use Rattle.trace.specs.ElementField.{form_fits_of, zeros_fit_of}
 use Rattle.trace.specs.Ranges.{up_to_of, three_of, element_out_of, first_out_of}
-use Rattle.trace.specs.Reading.{record_reference_of, rights_of, requests_of, answers_of, event_of, count_of, entry_of, whole_of, named_of, record_of, element_of}
+use Rattle.trace.specs.Reading.{record_reference_of, rights_of, requests_of, answers_of, event_of, entry_of, part_of, whole_of, named_of, record_of, element_of}
 use Rattle.memory.specs.Stretch.{stretch_of}
 use Rattle.trace_promises.specs.Records as records
 use Rattle.trace_promises.specs.Records.{FieldsInRange}
@@ -34,24 +34,33 @@ Stays (Some (Err Fault.Kind)) = Unit {0}
 Stays (Some (Err Fault.Short)) = ⊥
 Stays (Some (Err (Fault.Range f))) = Unit {0}
 
+-- octet i of a field at a place is one of the first n octets
+abbrev Within : Option ℕ → ℕ → ℕ → Type 0
+Within None i n = Unit {0}
+Within (Some p) i n = p + i < n
+
+wider : (place : Option ℕ) (i j n m : ℕ) → i ≤ j → n ≤ m → Within place j n → Within place i m
+wider None i j n m a b w = tt
+wider (Some p) i j n m a b w = omega arith
+
 -- every field that is held to a range stands in the record
 record Inside (l : Layout) : Type 0 where
-  rights : l.rights + 2 < l.size
-  side : l.side < l.size
-  what : l.what < l.size
-  cause : l.cause < l.size
-  requests : l.requests + 2 < l.size
-  answers : l.answers + 2 < l.size
+  rights : Within l.rights 2 l.size
+  side : Within l.side 0 l.size
+  what : Within l.what 0 l.size
+  cause : Within l.cause 0 l.size
+  requests : Within l.requests 2 l.size
+  answers : Within l.answers 2 l.size
 
 inside : (k : RecordKind) → Inside (layout_of k)
-inside RecordKind.Setup = record { rights = omega arith; side = omega arith; what = omega arith; cause = omega arith; requests = omega arith; answers = omega arith }
-inside RecordKind.Alerting = record { rights = omega arith; side = omega arith; what = omega arith; cause = omega arith; requests = omega arith; answers = omega arith }
-inside RecordKind.Connect = record { rights = omega arith; side = omega arith; what = omega arith; cause = omega arith; requests = omega arith; answers = omega arith }
-inside RecordKind.Information = record { rights = omega arith; side = omega arith; what = omega arith; cause = omega arith; requests = omega arith; answers = omega arith }
-inside RecordKind.Facility = record { rights = omega arith; side = omega arith; what = omega arith; cause = omega arith; requests = omega arith; answers = omega arith }
-inside RecordKind.Disconnect = record { rights = omega arith; side = omega arith; what = omega arith; cause = omega arith; requests = omega arith; answers = omega arith }
-inside RecordKind.ReleaseComplete = record { rights = omega arith; side = omega arith; what = omega arith; cause = omega arith; requests = omega arith; answers = omega arith }
-inside RecordKind.Tick = record { rights = omega arith; side = omega arith; what = omega arith; cause = omega arith; requests = omega arith; answers = omega arith }
+inside RecordKind.Setup = record { rights = omega arith; side = tt; what = tt; cause = tt; requests = omega arith; answers = tt }
+inside RecordKind.Alerting = record { rights = tt; side = tt; what = tt; cause = tt; requests = tt; answers = omega arith }
+inside RecordKind.Connect = record { rights = tt; side = tt; what = tt; cause = tt; requests = tt; answers = omega arith }
+inside RecordKind.Information = record { rights = tt; side = omega arith; what = tt; cause = tt; requests = tt; answers = tt }
+inside RecordKind.Facility = record { rights = tt; side = omega arith; what = omega arith; cause = tt; requests = tt; answers = tt }
+inside RecordKind.Disconnect = record { rights = tt; side = omega arith; what = tt; cause = omega arith; requests = tt; answers = omega arith }
+inside RecordKind.ReleaseComplete = record { rights = tt; side = omega arith; what = tt; cause = tt; requests = tt; answers = tt }
+inside RecordKind.Tick = record { rights = tt; side = tt; what = tt; cause = tt; requests = tt; answers = tt }
 
 module _ (t more : List ℕ) where
   same : (i : ℕ) → i < length t → get_or (t ++ more) i 0 ≡ get_or t i 0
@@ -64,21 +73,28 @@ module _ (t more : List ℕ) where
       rw (a, b, drop-append-le p t more (omega arith), take-append-le n (drop p t) more (rw length-drop (omega arith)))
 
   -- a test looks no further than the octets that it tests
-  same_up_to : (f : Field) (most p i : ℕ) → p + i < length t → up_to_of f most p i (t ++ more) ≡ up_to_of f most p i t
+  same_up_to : (f : Field) (most : ℕ) (place : Option ℕ) (i : ℕ) → Within place i (length t) → up_to_of f most place i (t ++ more) ≡ up_to_of f most place i t
   unfolding up_to_of
-  same_up_to f most p i h = rw (same (p + i) h)
+  same_up_to f most None i h = refl
+  same_up_to f most (Some p) i h = rw (same (p + i) h)
 
-  same_three : (f : Service → Field) (p : ℕ) → p + 2 < length t → three_of f p (t ++ more) ≡ three_of f p t
+  same_three : (f : Service → Field) (place : Option ℕ) → Within place 2 (length t) → three_of f place (t ++ more) ≡ three_of f place t
   unfolding three_of
-  same_three f p h = rw (same_up_to (f Service.One) 2 p 0 (omega arith), same_up_to (f Service.Two) 2 p 1 (omega arith), same_up_to (f Service.Three) 2 p 2 h)
+  same_three f place h =
+      let n = length t in
+      rw (
+        same_up_to (f Service.One) 2 place 0 (wider place 0 2 n n (omega arith) (omega arith) h),
+        same_up_to (f Service.Two) 2 place 1 (wider place 1 2 n n (omega arith) (omega arith) h),
+        same_up_to (f Service.Three) 2 place 2 h,
+      )
 
-  no_element : (s : List ℕ) → element_out_of 0 s ≡ None
-  unfolding element_out_of form_fits_of zeros_fit_of
-  no_element s = refl
-
-  same_element_out : (p : ℕ) → p + 132 ≤ length t → element_out_of p (t ++ more) ≡ element_out_of p t
+  same_element_out : (p : ℕ) → p + 132 ≤ length t → element_out_of (Some p) (t ++ more) ≡ element_out_of (Some p) t
   unfolding element_out_of form_fits_of zeros_fit_of
   same_element_out p h = rw (same p (omega arith), same (p + 1) (omega arith), same (p + 2) (omega arith), same_stretch p 132 h)
+
+  no_element : (s : List ℕ) → element_out_of None s ≡ None
+  unfolding element_out_of
+  no_element s = refl
 
   same_element_of : (k : RecordKind) → size_of k ≤ length t → element_out_of (layout_of k).element (t ++ more) ≡ element_out_of (layout_of k).element t
   same_element_of RecordKind.Setup h = same_element_out 12 (omega arith)
@@ -94,14 +110,16 @@ module _ (t more : List ℕ) where
   unfolding first_out_of
   same_ranged k h =
       let i = inside k in
+      let l = layout_of k in
+      let n = length t in
       rw (
-        same_up_to Field.Late 1 (layout_of k).rights 1 (omega (arith, i.rights)),
-        same_up_to Field.Leave 1 (layout_of k).rights 2 (omega (arith, i.rights)),
-        same_up_to Field.Side 1 (layout_of k).side 0 (omega (arith, i.side)),
-        same_up_to Field.What 3 (layout_of k).what 0 (omega (arith, i.what)),
-        same_up_to Field.Cause 127 (layout_of k).cause 0 (omega (arith, i.cause)),
-        same_three Field.Request (layout_of k).requests (omega (arith, i.requests)),
-        same_three Field.Answer (layout_of k).answers (omega (arith, i.answers)),
+        same_up_to Field.Late 1 l.rights 1 (wider l.rights 1 2 l.size n (omega arith) h i.rights),
+        same_up_to Field.Leave 1 l.rights 2 (wider l.rights 2 2 l.size n (omega arith) h i.rights),
+        same_up_to Field.Side 1 l.side 0 (wider l.side 0 0 l.size n (omega arith) h i.side),
+        same_up_to Field.What 3 l.what 0 (wider l.what 0 0 l.size n (omega arith) h i.what),
+        same_up_to Field.Cause 127 l.cause 0 (wider l.cause 0 0 l.size n (omega arith) h i.cause),
+        same_three Field.Request l.requests (wider l.requests 2 2 l.size n (omega arith) h i.requests),
+        same_three Field.Answer l.answers (wider l.answers 2 2 l.size n (omega arith) h i.answers),
         same_element_of k h,
       )
 
@@ -109,19 +127,19 @@ module _ (t more : List ℕ) where
   unfolding record_reference_of
   same_reference h = rw (same 1 (omega arith), same 2 (omega arith))
 
-  same_requests : (p : ℕ) → p + 3 ≤ length t → requests_of p (t ++ more) ≡ requests_of p t
+  same_requests : (p : ℕ) → p + 3 ≤ length t → requests_of (Some p) (t ++ more) ≡ requests_of (Some p) t
   unfolding requests_of
-  same_requests p h = rw (same p (omega arith), same (p + 1) (omega arith), same (p + 2) (omega arith))
+  same_requests p h = rw (same (p + 0) (omega arith), same (p + 1) (omega arith), same (p + 2) (omega arith))
 
-  same_answers : (p : ℕ) → p + 3 ≤ length t → answers_of p (t ++ more) ≡ answers_of p t
+  same_answers : (p : ℕ) → p + 3 ≤ length t → answers_of (Some p) (t ++ more) ≡ answers_of (Some p) t
   unfolding answers_of
-  same_answers p h = rw (same p (omega arith), same (p + 1) (omega arith), same (p + 2) (omega arith))
+  same_answers p h = rw (same (p + 0) (omega arith), same (p + 1) (omega arith), same (p + 2) (omega arith))
 
-  same_rights : (p : ℕ) → p + 6 ≤ length t → rights_of p (t ++ more) ≡ rights_of p t
+  same_rights : (p : ℕ) → p + 6 ≤ length t → rights_of (Some p) (t ++ more) ≡ rights_of (Some p) t
   unfolding rights_of
   same_rights p h =
       rw (
-        same p (omega arith),
+        same (p + 0) (omega arith),
         same (p + 1) (omega arith),
         same (p + 2) (omega arith),
         same (p + 3) (omega arith),
@@ -139,20 +157,9 @@ module _ (t more : List ℕ) where
   same_event RecordKind.ReleaseComplete h = rw (same 3 (omega arith))
   same_event RecordKind.Tick h = refl
 
-  same_count : (k : RecordKind) → size_of k ≤ length t → count_of (layout_of k).element (t ++ more) ≡ count_of (layout_of k).element t
-  unfolding count_of
-  same_count RecordKind.Setup h = same 12 (omega arith)
-  same_count RecordKind.Alerting h = same 6 (omega arith)
-  same_count RecordKind.Connect h = same 6 (omega arith)
-  same_count RecordKind.Information h = same 4 (omega arith)
-  same_count RecordKind.Facility h = refl
-  same_count RecordKind.Disconnect h = same 8 (omega arith)
-  same_count RecordKind.ReleaseComplete h = refl
-  same_count RecordKind.Tick h = refl
-
   same_entry : (k : RecordKind) → size_of k ≤ length t → entry_of k (t ++ more) ≡ entry_of k t
   unfolding entry_of
-  same_entry k h = rw (same_reference (omega (arith, least k)), same_event k h, same_count k h)
+  same_entry k h = rw (same_reference (omega (arith, least k)), same_event k h)
 
   kind_stays : (k : RecordKind) (a : Bool) → ltb (length t) (size_of k) ≡ a → Stays (cond a (Some (Err Fault.Short)) (whole_of (first_out_of (layout_of k) t) (entry_of k t))) → named_of (Some k) (t ++ more) ≡ named_of (Some k) t
   kind_stays k true e s = absurd s
@@ -229,22 +236,34 @@ size_within w = rw w.entry w.within
 field_small : (t : List ℕ) (p : ℕ) → records.Field t p → get_or t p 0 ≤ 131
 field_small t p f = ⊎_elim (λ z. omega (arith, z)) (λ h. h.most) f.element
 
-pub within_it : (k : RecordKind) (t : List ℕ) → size_of k ≤ length t → FieldsInRange k t → (layout_of k).element + 1 + count_of (layout_of k).element t ≤ length t
-unfolding count_of
-within_it RecordKind.Setup t h r = let f = field_small t 12 r.3 in omega arith
-within_it RecordKind.Alerting t h r = let f = field_small t 6 r.1 in omega arith
-within_it RecordKind.Connect t h r = let f = field_small t 6 r.1 in omega arith
-within_it RecordKind.Information t h r = let f = field_small t 4 r.1 in omega arith
-within_it RecordKind.Facility t h r = omega arith
-within_it RecordKind.Disconnect t h r = let f = field_small t 8 r.3 in omega arith
-within_it RecordKind.ReleaseComplete t h r = omega arith
-within_it RecordKind.Tick t h r = omega arith
+some_same : {a b : ℕ} → Some a ≡ Some b → a ≡ b
+some_same e = cc
 
-part_inside : {t : List ℕ} {e : Entry} → Whole t e → e.at + e.count ≤ length t
-unfolding entry_of
-part_inside {t} w = rw w.entry (within_it w.kind t w.within (in_range_lem t w.kind w.within w.ranged))
+-- a part that follows its number, where an element field is in range, lies in the octets
+pub record Held (t : List ℕ) (p : ℕ) : Type 0 where
+  pub number : p < length t
+  pub part : p + 1 + get_or t p 0 ≤ length t
+
+held_at : (t : List ℕ) (q p : ℕ) → q ≡ p → q + 132 ≤ length t → records.Field t q → Held t p
+held_at t q p e h f = let s = field_small t q f in rw (sym e) (record { number = omega arith; part = omega arith })
+
+pub within_it : (k : RecordKind) (t : List ℕ) → size_of k ≤ length t → FieldsInRange k t → (p : ℕ) → (layout_of k).element ≡ Some p → Held t p
+within_it RecordKind.Setup t h r p e = held_at t 12 p (some_same e) (omega arith) r.3
+within_it RecordKind.Alerting t h r p e = held_at t 6 p (some_same e) (omega arith) r.1
+within_it RecordKind.Connect t h r p e = held_at t 6 p (some_same e) (omega arith) r.1
+within_it RecordKind.Information t h r p e = held_at t 4 p (some_same e) (omega arith) r.1
+within_it RecordKind.Facility t h r p e = cc
+within_it RecordKind.Disconnect t h r p e = held_at t 8 p (some_same e) (omega arith) r.3
+within_it RecordKind.ReleaseComplete t h r p e = cc
+within_it RecordKind.Tick t h r p e = cc
+
+same_part : (t more : List ℕ) (place : Option ℕ) → ((p : ℕ) → place ≡ Some p → Held t p) → part_of place (t ++ more) ≡ part_of place t
+same_part t more None h = refl
+same_part t more (Some p) h =
+    let w = h p refl in
+    rw (same t more p w.number) (same_stretch t more (p + 1) (get_or t p 0) w.part)
 
 pub same_element : (t more : List ℕ) (e : Entry) → Whole t e → element_of e (t ++ more) ≡ element_of e t
-unfolding element_of
+unfolding element_of entry_of
 same_element t more e w =
-    same_stretch t more e.at e.count (part_inside w)
+    rw w.entry (same_part t more (layout_of w.kind).element (within_it w.kind t w.within (in_range_lem t w.kind w.within w.ranged)))

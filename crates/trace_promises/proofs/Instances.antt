@@ -28,7 +28,7 @@ use Rattle.trace.specs.Kind.{record_kind_of}
 use Rattle.trace.specs.ElementField.{blank_of, form_fits_of, zeros_fit_of}
 use Rattle.trace.specs.Ranges.{up_to_of, three_of, element_out_of, first_out_of}
 use Rattle.trace.specs.Values.{flag_of, side_of, request_of}
-use Rattle.trace.specs.Reading.{record_reference_of, rights_of, requests_of, count_of, entry_of, record_of, element_of}
+use Rattle.trace.specs.Reading.{record_reference_of, rights_of, requests_of, entry_of, record_of, element_of}
 use Rattle.logic.proofs.Tests.{both}
 use Rattle.text.specs.Decimal.{digits_of, decimal_of}
 use Rattle.text.specs.Hex.{digit_of}
@@ -58,7 +58,7 @@ all_octets (x ∷ t) h (suc i) = all_octets t (both (ltb x 256) (below t) h).1 i
 -- the first part is read, and its line is printed where it fits exactly; the tick waits for the second; what is left of
 -- that is the last
 ran : (explained : Bool) → RunOf explained (one_part ++ other_part ++ []) (three_lines explained)
-unfolding empty_of meter_fits_of well_formed_of seen_of goes_out_of rights_fit_of reference_fits_of remains_of first_standing_of standings_of lacks_of passed_requests_of network_refusals_of nobody_asks saying_of only_if_of no_rights no_services empty_meters fresh_call fields_fit_of sound_of bar_of refused_of heard_of setup_phase_of to_caller_of to_called_of setup_carries_of proceeds_of setup_of meters_of refills_of ready_of runs_of passes_tick_of tick_of table_sound choose_of chosen_of subject_of record_kept_of heard_outcome_of table_refusal_of settled_of step_outcome step_table record_kind_of flag_of request_of blank_of form_fits_of zeros_fit_of up_to_of three_of element_out_of first_out_of record_reference_of rights_of requests_of count_of entry_of record_of element_of digits_of decimal_of digit_of items_of commas joined number_columns type_columns line_of front_of turned_at answered_at columns_of line_at run_in trace_run_of
+unfolding empty_of meter_fits_of well_formed_of seen_of goes_out_of rights_fit_of reference_fits_of remains_of first_standing_of standings_of lacks_of passed_requests_of network_refusals_of nobody_asks saying_of only_if_of no_rights no_services empty_meters fresh_call fields_fit_of sound_of bar_of refused_of heard_of setup_phase_of to_caller_of to_called_of setup_carries_of proceeds_of setup_of meters_of refills_of ready_of runs_of passes_tick_of tick_of table_sound choose_of chosen_of subject_of record_kept_of heard_outcome_of table_refusal_of settled_of step_outcome step_table record_kind_of flag_of request_of blank_of form_fits_of zeros_fit_of up_to_of three_of element_out_of first_out_of record_reference_of rights_of requests_of entry_of record_of element_of digits_of decimal_of digit_of items_of commas joined number_columns type_columns line_of front_of turned_at answered_at columns_of line_at run_in trace_run_of
 ran false =
     record {
       made = _;
@@ -90,7 +90,7 @@ unfolding run_in trace_run_of
 idle p calls = record { none = refl; end = refl }
 
 strange_ran : RunOf false (8 ∷ 0 ∷ 5 ∷ []) (strange_line ++ end_line)
-unfolding fresh_call sound_of table_sound choose_of chosen_of table_refusal_of step_outcome step_table record_kind_of form_fits_of zeros_fit_of up_to_of three_of element_out_of first_out_of record_reference_of count_of entry_of record_of element_of digits_of decimal_of number_columns type_columns line_of front_of turned_at answered_at columns_of line_at run_in trace_run_of
+unfolding fresh_call sound_of table_sound choose_of chosen_of table_refusal_of step_outcome step_table record_kind_of form_fits_of zeros_fit_of up_to_of three_of element_out_of first_out_of record_reference_of entry_of record_of element_of digits_of decimal_of number_columns type_columns line_of front_of turned_at answered_at columns_of line_at run_in trace_run_of
 strange_ran =
     record {
       made = _;
@@ -102,7 +102,7 @@ strange_ran =
 
 -- a SETUP with a note, and nothing after it
 noted_ran : RunOf false noted_setup noted_line
-unfolding empty_of meter_fits_of well_formed_of seen_of goes_out_of rights_fit_of reference_fits_of remains_of first_standing_of standings_of lacks_of passed_requests_of network_refusals_of nobody_asks saying_of only_if_of no_rights no_services empty_meters fresh_call fields_fit_of sound_of bar_of refused_of heard_of setup_phase_of to_caller_of to_called_of setup_carries_of proceeds_of setup_of meters_of refills_of ready_of runs_of passes_tick_of tick_of table_sound choose_of chosen_of subject_of record_kept_of heard_outcome_of table_refusal_of settled_of step_outcome step_table record_kind_of flag_of request_of blank_of form_fits_of zeros_fit_of up_to_of three_of element_out_of first_out_of record_reference_of rights_of requests_of count_of entry_of record_of element_of digits_of decimal_of digit_of items_of commas joined number_columns type_columns line_of front_of turned_at answered_at columns_of line_at run_in trace_run_of
+unfolding empty_of meter_fits_of well_formed_of seen_of goes_out_of rights_fit_of reference_fits_of remains_of first_standing_of standings_of lacks_of passed_requests_of network_refusals_of nobody_asks saying_of only_if_of no_rights no_services empty_meters fresh_call fields_fit_of sound_of bar_of refused_of heard_of setup_phase_of to_caller_of to_called_of setup_carries_of proceeds_of setup_of meters_of refills_of ready_of runs_of passes_tick_of tick_of table_sound choose_of chosen_of subject_of record_kept_of heard_outcome_of table_refusal_of settled_of step_outcome step_table record_kind_of flag_of request_of blank_of form_fits_of zeros_fit_of up_to_of three_of element_out_of first_out_of record_reference_of rights_of requests_of entry_of record_of element_of digits_of decimal_of digit_of items_of commas joined number_columns type_columns line_of front_of turned_at answered_at columns_of line_at run_in trace_run_of
 noted_ran =
     record {
       made = _;
@@ -110,11 +110,11 @@ noted_ran =
     }
 
 unknown_ran : RunOf false (9 ∷ []) (error_line 49)
-unfolding fresh_call sound_of table_sound choose_of chosen_of table_refusal_of step_outcome step_table record_kind_of form_fits_of zeros_fit_of up_to_of three_of element_out_of first_out_of record_reference_of count_of entry_of record_of element_of digits_of decimal_of number_columns type_columns line_of front_of turned_at answered_at columns_of line_at run_in trace_run_of
+unfolding fresh_call sound_of table_sound choose_of chosen_of table_refusal_of step_outcome step_table record_kind_of form_fits_of zeros_fit_of up_to_of three_of element_out_of first_out_of record_reference_of entry_of record_of element_of digits_of decimal_of number_columns type_columns line_of front_of turned_at answered_at columns_of line_at run_in trace_run_of
 unknown_ran = record { made = _; run = Run.reads [] (9 ∷ []) [] (Run.faults false 9 (9 ∷ []) [] Fault.Kind refl) }
 
 ranged_ran : RunOf false wrong_side (error_line 51)
-unfolding fresh_call sound_of table_sound choose_of chosen_of table_refusal_of step_outcome step_table record_kind_of form_fits_of zeros_fit_of up_to_of three_of element_out_of first_out_of record_reference_of count_of entry_of record_of element_of digits_of decimal_of number_columns type_columns line_of front_of turned_at answered_at columns_of line_at run_in trace_run_of side_of
+unfolding fresh_call sound_of table_sound choose_of chosen_of table_refusal_of step_outcome step_table record_kind_of form_fits_of zeros_fit_of up_to_of three_of element_out_of first_out_of record_reference_of entry_of record_of element_of digits_of decimal_of number_columns type_columns line_of front_of turned_at answered_at columns_of line_at run_in trace_run_of side_of
 ranged_ran = record { made = _; run = Run.reads [] wrong_side [] (Run.faults false 9 wrong_side [] (Fault.Range Field.Side) refl) }
 
 first_octets_lem : printed_of false [] ≡ first_octets
@@ -122,7 +122,7 @@ unfolding printed_of course_of course_in
 first_octets_lem = refl
 
 side_words_lem : said_of (8 ∷ 0 ∷ 5 ∷ wrong_side) ≡ side_words
-unfolding fresh_call sound_of table_sound choose_of chosen_of table_refusal_of step_outcome step_table record_kind_of form_fits_of zeros_fit_of up_to_of three_of element_out_of first_out_of record_reference_of count_of entry_of record_of element_of digits_of decimal_of number_columns type_columns line_of front_of turned_at answered_at columns_of line_at run_in trace_run_of said_of course_of course_in words_of place_words
+unfolding fresh_call sound_of table_sound choose_of chosen_of table_refusal_of step_outcome step_table record_kind_of form_fits_of zeros_fit_of up_to_of three_of element_out_of first_out_of record_reference_of entry_of record_of element_of digits_of decimal_of number_columns type_columns line_of front_of turned_at answered_at columns_of line_at run_in trace_run_of said_of course_of course_in words_of place_words
 side_words_lem = refl
 
 empty_ran : RunOf false [] []

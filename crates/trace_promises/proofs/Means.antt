@@ -1,9 +1,10 @@
 -- What a record of a trace means.
 use Rattle.std.specs.Prelude.{Option, Some, None}
 use Prim.Native.Nat.{ℕ, zero, suc, ◌+◌, ◌≤◌}
-use mathlib.Core.List.{List}
+use mathlib.Core.List.{List, []}
 use mathlib.Core.Bool.{true}
 use mathlib.Core.Path.{◌≡◌, refl, ap, ◌∙◌}
+use native.Mathlib.Nat.{add-zero}
 use native.Mathlib.Omega.{arith}
 use borrow.Author.Tests.{eqb-true, le-leb}
 use lib.Dec.{eqb}
@@ -14,11 +15,11 @@ use Rattle.trace.specs.declared.kind.RecordKind.{RecordKind}
 use Rattle.trace.specs.declared.Entry.{Entry}
 use Rattle.trace.specs.Kind.{record_kind_of, layout_of, size_of}
 use Rattle.trace.specs.Values.{flag_of, side_of, request_of, given_of, what_of}
-use Rattle.trace.specs.Reading.{record_reference_of, rights_of, requests_of, answers_of, event_of, count_of, entry_of, element_of}
+use Rattle.trace.specs.Reading.{record_reference_of, rights_of, requests_of, answers_of, event_of, entry_of, part_of, element_of}
 use Rattle.trace_promises.specs.Records.{Three, FieldsInRange}
-use Rattle.trace_promises.specs.Means.{kind_number, Kinds, FlagIs, SideIs, RequestIs, AnswerIs, WhatIs, RightsIn, RequestsAt, AnswersAt, Says, Meant, Means}
+use Rattle.trace_promises.specs.Means.{kind_number, Kinds, FlagIs, SideIs, RequestIs, AnswerIs, WhatIs, RightsIn, RequestsAt, AnswersAt, Says, Meant, Means, element_at}
 use Rattle.trace_promises.proofs.Ranged.{in_range_lem}
-use Rattle.trace_promises.proofs.Fronts.{Whole, within_it}
+use Rattle.trace_promises.proofs.Fronts.{Whole, Held, within_it}
 use Rattle.trace_promises.proofs.Making.{taken, none_left}
 
 -- ---- kinds
@@ -99,29 +100,38 @@ what_is (suc (suc (suc (suc x)))) h = absurd (omega arith)
 
 -- ---- fields
 module _ (t : List ℕ) where
-  rights_in_lem : get_or t 4 0 ≤ 1 → get_or t 5 0 ≤ 1 → RightsIn t (rights_of 3 t)
+  rights_in_lem : get_or t 4 0 ≤ 1 → get_or t 5 0 ≤ 1 → RightsIn t (rights_of (Some 3) t)
   unfolding rights_of
   rights_in_lem a b = record { services = refl; late = flag_is _ a; leave = flag_is _ b; limit = refl; x = refl; y = refl }
 
-  requests_at : (p : ℕ) → Three t p → RequestsAt p t (requests_of p t)
+  requests_at : (p : ℕ) → Three t p → RequestsAt p t (requests_of (Some p) t)
   unfolding requests_of
-  requests_at p h = record { one = request_is _ h.one; two = request_is _ h.two; three = request_is _ h.three }
+  requests_at p h = rw (add-zero p) (record { one = request_is _ h.one; two = request_is _ h.two; three = request_is _ h.three })
 
-  answers_at : (p : ℕ) → Three t p → AnswersAt p t (answers_of p t)
+  answers_at : (p : ℕ) → Three t p → AnswersAt p t (answers_of (Some p) t)
   unfolding answers_of
-  answers_at p h = record { one = answer_is _ h.one; two = answer_is _ h.two; three = answer_is _ h.three }
+  answers_at p h = rw (add-zero p) (record { one = answer_is _ h.one; two = answer_is _ h.two; three = answer_is _ h.three })
 
   -- a part that lies in the octets
   part_is : (p n : ℕ) → p + n ≤ length t → stretch_of p n t ≡ take n (drop p t)
   part_is p n h = simp (le-leb (p + n) (length t) h)
 
   -- ---- every kind
-  pub element_is : (k : RecordKind) → size_of k ≤ length t → FieldsInRange k t → element_of (entry_of k t) t ≡ take (count_of (layout_of k).element t) (drop ((layout_of k).element + 1) t)
-  unfolding element_of entry_of
-  element_is k s i = part_is ((layout_of k).element + 1) (count_of (layout_of k).element t) (within_it k t s i)
+  -- the octets of an element, as many as the number before them says
+  abbrev pub element_in : Option ℕ → List ℕ
+  element_in None = []
+  element_in (Some p) = element_at p t
 
-  says : (k : RecordKind) → get_or t 0 0 ≡ kind_number k → FieldsInRange k t → Says t k (event_of k (layout_of k) t) (take (count_of (layout_of k).element t) (drop ((layout_of k).element + 1) t))
-  unfolding record_reference_of count_of
+  part_at : (place : Option ℕ) → ((p : ℕ) → place ≡ Some p → Held t p) → part_of place t ≡ element_in place
+  part_at None h = refl
+  part_at (Some p) h = part_is (p + 1) (get_or t p 0) (h p refl).part
+
+  pub element_is : (k : RecordKind) → size_of k ≤ length t → FieldsInRange k t → element_of (entry_of k t) t ≡ element_in (layout_of k).element
+  unfolding element_of entry_of
+  element_is k s i = part_at (layout_of k).element (within_it k t s i)
+
+  says : (k : RecordKind) → get_or t 0 0 ≡ kind_number k → FieldsInRange k t → Says t k (event_of k (layout_of k) t) (element_in (layout_of k).element)
+  unfolding record_reference_of
   says RecordKind.Setup n i = Says.setup n (rights_in_lem i.0 i.1) (requests_at 9 i.2)
   says RecordKind.Alerting n i = Says.alerting n (answers_at 3 i.0)
   says RecordKind.Connect n i = Says.connect n (answers_at 3 i.0)

@@ -7,7 +7,7 @@ use mathlib.Core.Logic.{◌⊎◌, inl, inr, ⊎_elim}
 use mathlib.Core.Path.{◌≡◌, refl, sym, ◌∙◌}
 use native.Mathlib.Nat.{add-zero}
 use native.Mathlib.Omega.{arith}
-use borrow.Author.Tests.{ltb-true, ltb-false, eqb-true, le-leb, le-ltb, eq-eqb, ne_eqb}
+use borrow.Author.Tests.{ltb-true, ltb-false, eqb-true, le-leb, le-ltb, eq-eqb}
 use lib.ListN.{length, get_or, take, drop, length-drop}
 use lib.Seq.{get_or-take, get_or-drop, length-take-le}
 use lib.Dec.{ltb, eqb}
@@ -16,6 +16,7 @@ use Rattle.trace.specs.declared.Field.{Field}
 use Rattle.trace.specs.declared.kind.RecordKind.{RecordKind}
 use Rattle.trace.specs.Kind.{layout_of, size_of}
 use Rattle.trace.specs.ElementField.{blank_of, form_fits_of, zeros_fit_of}
+use Rattle.trace.proofs.First.{first_assoc}
 use Rattle.trace.specs.Ranges.{first_of, up_to_of, three_of, element_out_of, first_out_of}
 use Rattle.trace_promises.specs.Records.{Zeros, HoldsElement, FieldsInRange}
 use Rattle.trace_promises.specs.Names.{Fields, FirstOut, three_fields, element_fields, fields_of}
@@ -39,34 +40,30 @@ passes : (f : Field) (P : Type 0) (rest : Fields) (x : Option Field) → P → S
 passes f P rest None p s = (p, s)
 passes f P rest (Some g) p s = inr (p, s)
 
-first_assoc : (a b c : Option Field) → first_of (first_of a b) c ≡ first_of a (first_of b c)
-first_assoc None b c = refl
-first_assoc (Some f) b c = refl
-
 module _ (f : Field) (most : ℕ) (t : List ℕ) (rest : Fields) (x : Option Field) (s : Says rest x) where
   held_to : (v : ℕ) (b : Bool) → ltb most v ≡ b → Says (Fields.field f (v ≤ most) rest) (first_of (cond b (Some f) None) x)
   held_to v true e = inl (refl, λ h. let l = ltb-true most v e in omega arith)
   held_to v false e = passes f (v ≤ most) rest x (ltb-false most v e) s
 
-  up_to_says : (p i : ℕ) → (p ≡ 0 → ⊥) → Says (Fields.field f (get_or t (p + i) 0 ≤ most) rest) (first_of (up_to_of f most p i t) x)
+  up_to_says : (p i : ℕ) → Says (Fields.field f (get_or t (p + i) 0 ≤ most) rest) (first_of (up_to_of f most (Some p) i t) x)
   unfolding up_to_of
-  up_to_says p i n = rw (ne_eqb p 0 n) (held_to (get_or t (p + i) 0) _ refl)
+  up_to_says p i = held_to (get_or t (p + i) 0) _ refl
 
-  at_says : (p : ℕ) → (p ≡ 0 → ⊥) → Says (Fields.field f (get_or t p 0 ≤ most) rest) (first_of (up_to_of f most p 0 t) x)
+  at_says : (p : ℕ) → Says (Fields.field f (get_or t p 0 ≤ most) rest) (first_of (up_to_of f most (Some p) 0 t) x)
   unfolding up_to_of
-  at_says p n = rw (ne_eqb p 0 n, add-zero p) (held_to (get_or t p 0) _ refl)
+  at_says p = rw (add-zero p) (held_to (get_or t p 0) _ refl)
 
-three_says : (f : Service → Field) (t : List ℕ) (rest : Fields) (x : Option Field) → Says rest x → (p : ℕ) → (p ≡ 0 → ⊥) → Says (three_fields f t p rest) (first_of (three_of f p t) x)
+three_says : (f : Service → Field) (t : List ℕ) (rest : Fields) (x : Option Field) → Says rest x → (p : ℕ) → Says (three_fields f t p rest) (first_of (three_of f (Some p) t) x)
 unfolding three_of
-three_says f t rest x s p n =
+three_says f t rest x s p =
     let three = Fields.field (f Service.Three) (get_or t (p + 2) 0 ≤ 2) rest in
     let two = Fields.field (f Service.Two) (get_or t (p + 1) 0 ≤ 2) three in
-    let c = first_of (up_to_of (f Service.Three) 2 p 2 t) x in
-    let b = first_of (up_to_of (f Service.Two) 2 p 1 t) c in
+    let c = first_of (up_to_of (f Service.Three) 2 (Some p) 2 t) x in
+    let b = first_of (up_to_of (f Service.Two) 2 (Some p) 1 t) c in
     rw (first_assoc, first_assoc)
     (at_says (f Service.One) 2 t two b
-    (up_to_says (f Service.Two) 2 t three c (up_to_says (f Service.Three) 2 t rest x s p 2 n) p 1 n)
-    p n)
+    (up_to_says (f Service.Two) 2 t three c (up_to_says (f Service.Three) 2 t rest x s p 2) p 1)
+    p)
 
 -- ---- the element field
 -- zeros, one by one
@@ -81,7 +78,7 @@ unfolding blank_of
 each_blank [] f = refl
 each_blank (x ∷ xs) f = simp (eq-eqb x 0 (f 0 (omega arith)), each_blank xs (λ i h. f (suc i) (omega arith)))
 
-module _ (t : List ℕ) (p : ℕ) (there : p ≡ 0 → ⊥) (within : p + 132 ≤ length t) where
+module _ (t : List ℕ) (p : ℕ) (within : p + 132 ≤ length t) where
   abbrev n : ℕ
   n = get_or t p 0
 
@@ -134,10 +131,10 @@ module _ (t : List ℕ) (p : ℕ) (there : p ≡ 0 → ⊥) (within : p + 132 �
       (form_in _ refl e) s
   form_so false e x s = inl (refl, λ w. true≢false (sym (⊎_elim absent held w) ∙ e))
 
-  element_says : Says (element_fields t p) (element_out_of p t)
+  element_says : Says (element_fields t p) (element_out_of (Some p) t)
   unfolding element_out_of form_fits_of zeros_fit_of
   element_says =
-      rw (ne_eqb p 0 there, le-leb (p + 132) (length t) within)
+      rw (le-leb (p + 132) (length t) within)
       (form_so _ refl _ (zeros_so _ refl))
 
 -- ---- every kind
@@ -149,28 +146,28 @@ module _ (t : List ℕ) where
       let three = three_fields Field.Request t 9 element in
       up_to_says Field.Late 1 t (Fields.field Field.Leave (get_or t 5 0 ≤ 1) three) _
       (up_to_says Field.Leave 1 t three _
-      (three_says Field.Request t element _ (element_says t 12 (λ z. omega arith) (omega arith)) 9 (λ z. omega arith))
-      3 2 (λ z. omega arith))
-      3 1 (λ z. omega arith)
+      (three_says Field.Request t element _ (element_says t 12 (omega arith)) 9)
+      3 2)
+      3 1
   says RecordKind.Alerting s =
-      three_says Field.Answer t (element_fields t 6) _ (element_says t 6 (λ z. omega arith) (omega arith)) 3 (λ z. omega arith)
+      three_says Field.Answer t (element_fields t 6) _ (element_says t 6 (omega arith)) 3
   says RecordKind.Connect s =
-      three_says Field.Answer t (element_fields t 6) _ (element_says t 6 (λ z. omega arith) (omega arith)) 3 (λ z. omega arith)
+      three_says Field.Answer t (element_fields t 6) _ (element_says t 6 (omega arith)) 3
   says RecordKind.Information s =
-      up_to_says Field.Side 1 t (element_fields t 4) _ (element_says t 4 (λ z. omega arith) (omega arith)) 3 0 (λ z. omega arith)
+      up_to_says Field.Side 1 t (element_fields t 4) _ (element_says t 4 (omega arith)) 3 0
   says RecordKind.Facility s =
       up_to_says Field.Side 1 t (Fields.field Field.What (get_or t 4 0 ≤ 3) Fields.none) _
-      (up_to_says Field.What 3 t Fields.none None tt 4 0 (λ z. omega arith))
-      3 0 (λ z. omega arith)
+      (up_to_says Field.What 3 t Fields.none None tt 4 0)
+      3 0
   says RecordKind.Disconnect s =
       let element = element_fields t 8 in
       let three = three_fields Field.Answer t 5 element in
       up_to_says Field.Side 1 t (Fields.field Field.Cause (get_or t 4 0 ≤ 127) three) _
       (up_to_says Field.Cause 127 t three _
-      (three_says Field.Answer t element _ (element_says t 8 (λ z. omega arith) (omega arith)) 5 (λ z. omega arith))
-      4 0 (λ z. omega arith))
-      3 0 (λ z. omega arith)
-  says RecordKind.ReleaseComplete s = up_to_says Field.Side 1 t Fields.none None tt 3 0 (λ z. omega arith)
+      (three_says Field.Answer t element _ (element_says t 8 (omega arith)) 5)
+      4 0)
+      3 0
+  says RecordKind.ReleaseComplete s = up_to_says Field.Side 1 t Fields.none None tt 3 0
   says RecordKind.Tick s = tt
 
   all_in : (k : RecordKind) → AllIn (fields_of k t) → FieldsInRange k t

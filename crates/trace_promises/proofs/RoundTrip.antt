@@ -1,5 +1,5 @@
 -- What is written reads back.
-use Rattle.std.specs.Prelude.{Some, Ok}
+use Rattle.std.specs.Prelude.{Some, None, Ok}
 use Prim.Native.Nat.{ℕ, suc, ◌+◌, ◌-◌, ◌*◌, ◌/◌, ◌%◌, ◌<◌, ◌≤◌}
 use mathlib.Core.List.{List, [], ◌∷◌, ◌++◌, append_assoc}
 use mathlib.Core.Bool.{Bool, true, false, not, ◌&&◌, true≢false}
@@ -16,11 +16,10 @@ use Rattle.sent.specs.declared.side.Side.{Side}
 use Rattle.services.specs.declared.Given.{Given}
 use Rattle.services.specs.declared.Request.{Request}
 use Rattle.trace.specs.declared.kind.RecordKind.{RecordKind}
-use Rattle.trace.specs.declared.Entry.{Entry}
 use Rattle.trace.specs.Kind.{record_kind_of, layout_of, size_of}
-use Rattle.trace.specs.Values.{flag_of, side_of, request_of, given_of, what_of}
-use Rattle.trace.specs.Reading.{record_reference_of, rights_of, requests_of, answers_of, event_of, count_of, entry_of, record_of, element_of}
-use Rattle.recorder.specs.Writing.{flag_octet, side_octet, request_octet, given_octet, what_octet, field_octets, kind_for, head_octets, record_octets, record_fits_of}
+use Rattle.trace.specs.Values.{flag_octet, side_octet, request_octet, given_octet, what_octet, flag_back, side_back, request_back, given_back, what_back}
+use Rattle.trace.specs.Reading.{record_reference_of, rights_of, requests_of, answers_of, event_of, entry_of, part_of, record_of, element_of}
+use Rattle.recorder.specs.Writing.{field_octets, kind_for, head_octets, record_octets, record_fits_of}
 use Rattle.trace_promises.specs.Records.{Zeros, HoldsElement, Field, FieldsInRange}
 use Rattle.trace_promises.specs.RoundTrip.{Again, Fitting}
 use Rattle.logic.proofs.Tests.{both}
@@ -29,54 +28,26 @@ use Rattle.user_element.proofs.writable.Whole.{element_in_lem, element_small}
 use Rattle.recorder.proofs.Sizing.{field_is}
 use Rattle.trace_promises.proofs.Ranged.{ranged}
 use Rattle.trace.proofs.Naming.{named_taken}
+use Rattle.trace.proofs.Rows.{least}
 
 -- small fields
-flag_back : (b : Bool) → flag_of (flag_octet b) ≡ b
-unfolding flag_of
-flag_back false = refl
-flag_back true = refl
-
 flag_small : (b : Bool) → flag_octet b ≤ 1
 flag_small false = omega arith
 flag_small true = omega arith
 
-side_back : (s : Side) → side_of (side_octet s) ≡ s
-unfolding side_of
-side_back Side.Calling = refl
-side_back Side.Called = refl
-
 side_small : (s : Side) → side_octet s ≤ 1
 side_small Side.Calling = omega arith
 side_small Side.Called = omega arith
-
-request_back : (q : Request) → request_of (request_octet q) ≡ q
-unfolding request_of
-request_back Request.Unasked = refl
-request_back Request.Preferred = refl
-request_back Request.Required = refl
 
 request_small : (q : Request) → request_octet q ≤ 2
 request_small Request.Unasked = omega arith
 request_small Request.Preferred = omega arith
 request_small Request.Required = omega arith
 
-given_back : (g : Given) → given_of (given_octet g) ≡ g
-unfolding given_of
-given_back Given.Silent = refl
-given_back Given.Accepted = refl
-given_back Given.Rejected = refl
-
 given_small : (g : Given) → given_octet g ≤ 2
 given_small Given.Silent = omega arith
 given_small Given.Accepted = omega arith
 given_small Given.Rejected = omega arith
-
-what_back : (w : What) → what_of (what_octet w) ≡ w
-unfolding what_of
-what_back What.Preferred = refl
-what_back What.Accept = refl
-what_back What.Reject = refl
-what_back What.Required = refl
 
 what_small : (w : What) → what_octet w ≤ 3
 what_small What.Preferred = omega arith
@@ -143,17 +114,13 @@ module _ (h u rest : List ℕ) (fit : element_fits_of u ≡ true) where
     after = rw count_is zeros;
   }
 
-  pub element_back : (x : Entry) → x.at ≡ length h + 1 → x.count ≡ length u → element_of x text ≡ u
-  unfolding element_of field_octets
-  element_back x a c =
+  pub element_back : part_of (Some (length h)) text ≡ u
+  unfolding field_octets
+  element_back =
       let s = element_small u fit in
       let n : length text ≡ length h + (132 + length rest) = length-append h (field_octets u ++ rest) ∙ ap (λ (k : ℕ). length h + k) (length-append (field_octets u) rest ∙ ap (λ (k : ℕ). k + length rest) (field_is u s)) in
       let d : drop (length h + 1) text ≡ u ++ (replicate (131 - length u) 0 ++ rest) = drop-append-add h (field_octets u ++ rest) 1 ∙ append_assoc u (replicate (131 - length u) 0) rest in
-      rw (a, c, le-leb (length h + 1 + length u) (length text) (omega arith), d) (take-append_seam u _)
-
-  pub count_back : (p : ℕ) → suc p ≡ length h → count_of (suc p) text ≡ length u
-  unfolding count_of
-  count_back p e = simp (ne_eqb (suc p) 0 (λ z. omega arith)) (rw e count_is)
+      rw (count_is, le-leb (length h + 1 + length u) (length text) (omega arith), d) (take-append_seam u _)
 
   pub long : length h + 132 ≤ length text
   long =
@@ -170,8 +137,8 @@ nothing_is [] h = refl
 nothing_is (x ∷ xs) h = absurd (omega arith)
 
 -- an event without an element field
-bare_back : (r : ℕ) (e : Event) (k : RecordKind) (u t : List ℕ) → record_kind_of (get_or t 0 0) ≡ Some k → 3 ≤ length t → size_of k ≤ length t → FieldsInRange k t → record_reference_of t ≡ r → event_of k (layout_of k) t ≡ e → (layout_of k).element ≡ 0 → eqb (length u) 0 ≡ true → Again r e u t
-unfolding entry_of count_of element_of
+bare_back : (r : ℕ) (e : Event) (k : RecordKind) (u t : List ℕ) → record_kind_of (get_or t 0 0) ≡ Some k → 3 ≤ length t → size_of k ≤ length t → FieldsInRange k t → record_reference_of t ≡ r → event_of k (layout_of k) t ≡ e → (layout_of k).element ≡ None → eqb (length u) 0 ≡ true → Again r e u t
+unfolding entry_of element_of
 bare_back r e k u t a l s i b d p z =
     record {
       entry = entry_of k t;
@@ -179,18 +146,17 @@ bare_back r e k u t a l s i b d p z =
         taken = whole k t a l s i;
         reference = b;
         event = d;
-        element = rw (nothing_is u (eqb-true (length u) 0 z), p, le-leb (0 + 1 + 0) (length t) (omega arith)) refl;
+        element = rw (nothing_is u (eqb-true (length u) 0 z), p) refl;
       };
     }
 
 -- an event with one
-fielded_back : (r : ℕ) (e : Event) (k : RecordKind) (p : ℕ) (h u rest : List ℕ) → (fit : element_fits_of u ≡ true) → record_kind_of (get_or (h ++ (field_octets u ++ rest)) 0 0) ≡ Some k → size_of k ≡ length h + 132 → FieldsInRange k (h ++ (field_octets u ++ rest)) → record_reference_of (h ++ (field_octets u ++ rest)) ≡ r → event_of k (layout_of k) (h ++ (field_octets u ++ rest)) ≡ e → (layout_of k).element ≡ suc p → suc p ≡ length h → Again r e u ((h ++ field_octets u) ++ rest)
-unfolding entry_of
-fielded_back r e k p h u rest fit a s i b d q w =
+fielded_back : (r : ℕ) (e : Event) (k : RecordKind) (h u rest : List ℕ) → (fit : element_fits_of u ≡ true) → record_kind_of (get_or (h ++ (field_octets u ++ rest)) 0 0) ≡ Some k → size_of k ≡ length h + 132 → FieldsInRange k (h ++ (field_octets u ++ rest)) → record_reference_of (h ++ (field_octets u ++ rest)) ≡ r → event_of k (layout_of k) (h ++ (field_octets u ++ rest)) ≡ e → (layout_of k).element ≡ Some (length h) → Again r e u ((h ++ field_octets u) ++ rest)
+unfolding entry_of element_of
+fielded_back r e k h u rest fit a s i b d q =
     let t = h ++ (field_octets u ++ rest) in
     let n = long h u rest fit in
-    let c : (entry_of k t).count ≡ length u = rw q (count_back h u rest fit p w) in
-    let z : (entry_of k t).at ≡ length h + 1 = rw (q, w) refl in
+    let g = least k in
     rw (append_assoc h (field_octets u) rest)
     (record {
       entry = entry_of k t;
@@ -198,7 +164,7 @@ fielded_back r e k p h u rest fit a s i b d q w =
         taken = whole k t a (omega arith) (omega arith) i;
         reference = b;
         event = d;
-        element = element_back h u rest fit (entry_of k t) z c;
+        element = rw q (element_back h u rest fit);
       };
     })
 
@@ -214,7 +180,7 @@ round_trip r (Event.Setup n rights q) u rest h =
     let b = both (eqb n r && ltb rights.burst 256) (ltb rights.refill 256) a.0 in
     let c = both (eqb n r) (ltb rights.burst 256) b.0 in
     let same : n ≡ r = eqb-true n r c.0 in
-    fielded_back r (Event.Setup n rights q) RecordKind.Setup 11 (head_for r (Event.Setup n rights q)) u rest a.1 refl refl (
+    fielded_back r (Event.Setup n rights q) RecordKind.Setup (head_for r (Event.Setup n rights q)) u rest a.1 refl refl (
       flag_small rights.late,
       flag_small rights.leave,
       record { one = request_small q.one; two = request_small q.two; three = request_small q.three },
@@ -232,34 +198,34 @@ round_trip r (Event.Setup n rights q) u rest h =
       request_back q.two,
       request_back q.three,
     ))
-    refl refl
+    refl
 round_trip r (Event.Alerting x) u rest h =
-    fielded_back r (Event.Alerting x) RecordKind.Alerting 5 (head_for r (Event.Alerting x)) u rest h refl refl
+    fielded_back r (Event.Alerting x) RecordKind.Alerting (head_for r (Event.Alerting x)) u rest h refl refl
     (record { one = given_small x.one; two = given_small x.two; three = given_small x.three }, field_back (head_for r (Event.Alerting x)) u rest h)
-    (reference_back r) (simp (given_back x.one, given_back x.two, given_back x.three)) refl refl
+    (reference_back r) (simp (given_back x.one, given_back x.two, given_back x.three)) refl
 round_trip r (Event.Connect x) u rest h =
-    fielded_back r (Event.Connect x) RecordKind.Connect 5 (head_for r (Event.Connect x)) u rest h refl refl
+    fielded_back r (Event.Connect x) RecordKind.Connect (head_for r (Event.Connect x)) u rest h refl refl
     (record { one = given_small x.one; two = given_small x.two; three = given_small x.three }, field_back (head_for r (Event.Connect x)) u rest h)
-    (reference_back r) (simp (given_back x.one, given_back x.two, given_back x.three)) refl refl
+    (reference_back r) (simp (given_back x.one, given_back x.two, given_back x.three)) refl
 round_trip r (Event.Information side more) u rest h =
     let a = both (not more) (element_fits_of u) h in
     let no : more ≡ false = not-true more a.0 in
-    fielded_back r (Event.Information side more) RecordKind.Information 3 (head_for r (Event.Information side more)) u rest a.1 refl refl
+    fielded_back r (Event.Information side more) RecordKind.Information (head_for r (Event.Information side more)) u rest a.1 refl refl
     (side_small side, field_back (head_for r (Event.Information side more)) u rest a.1)
-    (reference_back r) (simp (side_back side, no)) refl refl
+    (reference_back r) (simp (side_back side, no)) refl
 round_trip r (Event.Facility side what) u rest h =
     bare_back r (Event.Facility side what) RecordKind.Facility u _ refl (omega arith) (omega arith) (side_small side, what_small what)
     (reference_back r) (simp (side_back side, what_back what)) refl h
 round_trip r (Event.Disconnect side cause x) u rest h =
     let a = both (ltb cause 128) (element_fits_of u) h in
     let l = ltb-true cause 128 a.0 in
-    fielded_back r (Event.Disconnect side cause x) RecordKind.Disconnect 7 (head_for r (Event.Disconnect side cause x)) u rest a.1 refl refl (
+    fielded_back r (Event.Disconnect side cause x) RecordKind.Disconnect (head_for r (Event.Disconnect side cause x)) u rest a.1 refl refl (
       side_small side,
       omega arith,
       record { one = given_small x.one; two = given_small x.two; three = given_small x.three },
       field_back (head_for r (Event.Disconnect side cause x)) u rest a.1,
     )
-    (reference_back r) (simp (side_back side, given_back x.one, given_back x.two, given_back x.three)) refl refl
+    (reference_back r) (simp (side_back side, given_back x.one, given_back x.two, given_back x.three)) refl
 round_trip r (Event.ReleaseComplete side) u rest h =
     bare_back r (Event.ReleaseComplete side) RecordKind.ReleaseComplete u _ refl (omega arith) (omega arith) (side_small side)
     (reference_back r) (simp (side_back side)) refl h

@@ -18,8 +18,9 @@ use Rattle.services.specs.declared.Request.{Request}
 use Rattle.trace.specs.declared.kind.RecordKind.{RecordKind}
 use Rattle.trace.specs.declared.Entry.{Entry}
 use Rattle.trace.specs.Kind.{layout_of, size_of}
-use Rattle.trace.specs.Reading.{record_reference_of, rights_of, requests_of, answers_of, event_of, count_of, entry_of}
-use Rattle.recorder.specs.Writing.{flag_octet, side_octet, request_octet, given_octet, what_octet, field_octets, head_of, head_octets, record_octets, record_fits_of}
+use Rattle.trace.specs.Reading.{record_reference_of, rights_of, requests_of, answers_of, event_of, entry_of}
+use Rattle.trace.specs.Values.{flag_octet, side_octet, request_octet, given_octet, what_octet}
+use Rattle.recorder.specs.Writing.{field_octets, head_of, head_octets, record_octets, record_fits_of}
 use Rattle.recorder.proofs.Sizing.{field_is}
 use Rattle.user_element.specs.Writable.{element_fits_of, UserElement}
 use Rattle.user_element.proofs.writable.Whole.{element_fits}
@@ -30,7 +31,7 @@ use Rattle.trace_promises.specs.RoundTrip.{Rewritten, WrittenBack}
 use Rattle.trace_promises.proofs.Ranged.{in_range_lem}
 use Rattle.trace_promises.proofs.Fronts.{Whole}
 use Rattle.trace_promises.proofs.Making.{taken}
-use Rattle.trace_promises.proofs.Means.{kinds, flag_is, side_is, request_is, answer_is, what_is, element_is}
+use Rattle.trace_promises.proofs.Means.{element_in, kinds, flag_is, side_is, request_is, answer_is, what_is, element_is}
 
 -- ---- the element
 module _ (t : List ℕ) (p : ℕ) (within : p + 132 ≤ length t) (f : Field t p) where
@@ -136,11 +137,11 @@ module _ (t : List ℕ) (o : Octets t) where
       ∙ sym (take-add p 132 t)
 
   abbrev element_for : RecordKind → List ℕ
-  element_for k = take (count_of (layout_of k).element t) (drop ((layout_of k).element + 1) t)
+  element_for k = element_in t (layout_of k).element
 
   -- ---- every kind
   fits : (k : RecordKind) → size_of k ≤ length t → FieldsInRange k t → record_fits_of (record_reference_of t) (event_of k (layout_of k) t) (element_for k) ≡ true
-  unfolding record_fits_of rights_of count_of
+  unfolding record_fits_of rights_of
   fits RecordKind.Setup s i =
       and_true _ _ (and_true _ _ (and_true _ _ (eq-eqb (record_reference_of t) (record_reference_of t) refl) (lt-ltb _ _ (o 7))) (lt-ltb _ _ (o 8)))
       (field_fits t 12 (omega arith) i.3)
@@ -216,7 +217,7 @@ module _ (t : List ℕ) (o : Octets t) where
   head_same RecordKind.Tick e i = simp (e, high, low)
 
   same : (k : RecordKind) → get_or t 0 0 ≡ kind_number k → size_of k ≤ length t → FieldsInRange k t → record_octets (record_reference_of t) (event_of k (layout_of k) t) (element_for k) ≡ take (1 + body_of k) t
-  unfolding record_octets count_of
+  unfolding record_octets
   same RecordKind.Setup e s i = joined 12 (head_for RecordKind.Setup) (head_same RecordKind.Setup e i) (omega arith) i.3
   same RecordKind.Alerting e s i = joined 6 (head_for RecordKind.Alerting) (head_same RecordKind.Alerting e i) (omega arith) i.1
   same RecordKind.Connect e s i = joined 6 (head_for RecordKind.Connect) (head_same RecordKind.Connect e i) (omega arith) i.1

@@ -1,6 +1,5 @@
 -- What each record of a trace does, and where a faulty one stands. Nothing here names how the course is worked out.
-use Rattle.std.specs.Prelude.{Option, Some, None, Ok, Err}
-use Rattle.std.specs.Prelude.{ℕ, ◌+◌, List, [], ◌∷◌, Bool, ◌≡◌, length, drop}
+use Rattle.std.specs.Prelude.{Option, Some, None, Ok, Err, ℕ, ◌+◌, List, [], ◌∷◌, Bool, ◌≡◌, length, drop}
 use Rattle.call.specs.declared.Call.{Call}
 use Rattle.table.specs.Step.{step_outcome, step_table}
 use Rattle.trace.specs.declared.Entry.{Entry}

@@ -1,9 +1,8 @@
 -- What a record of a trace means: which octet is which kind, where each field stands, and what its values say. All of
 -- it is the paper's, written out; nothing here names the reader's tables. Each statement is a type; `proofs/Means.antt`
 -- has its proof.
-use Rattle.std.specs.Prelude.{Some, None, Ok}
+use Rattle.std.specs.Prelude.{Some, None, Ok, ℕ, ◌+◌, ◌*◌, List, [], Bool, true, false, ◌≡◌, get_or, take, drop}
 use Rattle.services.specs.declared.ByService.{ByService}
-use Rattle.std.specs.Prelude.{ℕ, ◌+◌, ◌*◌, List, [], Bool, true, false, ◌≡◌, get_or, take, drop}
 use Rattle.event.specs.declared.Event.{Event}
 use Rattle.facility_rules.specs.declared.What.{What}
 use Rattle.rights.specs.declared.Rights.{Rights}

@@ -1,6 +1,5 @@
 -- What is promised of the field that a faulty record names. The statement is a type; `proofs/Names.antt` has its proof.
-use Rattle.std.specs.Prelude.{Some, Err}
-use Rattle.std.specs.Prelude.{ℕ, ◌+◌, ◌≤◌, List, ◌⊎◌, ◌≡◌, get_or}
+use Rattle.std.specs.Prelude.{Some, Err, ℕ, ◌+◌, ◌≤◌, List, ◌⊎◌, ◌≡◌, get_or}
 use Rattle.rights.specs.declared.Service.{Service}
 use Rattle.trace.specs.declared.kind.RecordKind.{RecordKind}
 use Rattle.trace.specs.declared.Fault.{Fault}

@@ -1,7 +1,6 @@
 -- What is promised of a record that is written. Each statement is a type; `proofs/` has its proof.
-use Rattle.std.specs.Prelude.{Some, Ok}
+use Rattle.std.specs.Prelude.{Some, Ok, ℕ, ◌+◌, List, [], ◌∷◌, ◌++◌, true, false, ◌≡◌, take}
 use Rattle.services.specs.declared.ByService.{ByService}
-use Rattle.std.specs.Prelude.{ℕ, ◌+◌, List, [], ◌∷◌, ◌++◌, true, false, ◌≡◌, take}
 use Rattle.event.specs.declared.Event.{Event}
 use Rattle.facility_rules.specs.declared.What.{What}
 use Rattle.rights.specs.declared.Rights.{Rights}

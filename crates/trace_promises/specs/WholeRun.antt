@@ -1,7 +1,6 @@
 -- What is promised of a trace that is read in pieces, over the definitions: of its events with their answers, whatever
 -- a program p puts out for each of them. Each statement is a type; `proofs/` has its proof.
-use Rattle.std.specs.Prelude.{Option, Some, None, Ok, Err}
-use Rattle.std.specs.Prelude.{ℕ, ◌<◌, ◌≤◌, List, [], ◌++◌, Bool, true, false, ◌≡◌, length, get_or, drop, replicate}
+use Rattle.std.specs.Prelude.{Option, Some, None, Ok, Err, ℕ, ◌<◌, ◌≤◌, List, [], ◌++◌, Bool, true, false, ◌≡◌, length, get_or, drop, replicate}
 use Rattle.call.specs.declared.Call.{Call}
 use Rattle.call.specs.Sound.{fresh_call}
 use Rattle.trace.specs.declared.Entry.{Entry}

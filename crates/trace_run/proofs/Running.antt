@@ -1,18 +1,18 @@
 -- A piece that is being worked off: what is left of it makes up what the whole of it makes.
 use Rattle.std.specs.Prelude.{Option, Some, None, Result, Ok, Err}
-use Rattle.table.specs.declared.plan.Seat.{Seat}
-use Rattle.table.specs.declared.verdict.Verdict.{Verdict}
 use Rattle.trace.specs.declared.Field.{Field}
 use Prim.Native.Nat.{ℕ, zero, suc, ◌+◌, ◌-◌, ◌<◌, ◌≤◌}
 use mathlib.Core.List.{List, [], append-nil}
-use mathlib.Core.Bool.{Bool, true, false, cond, true≢false}
+use mathlib.Core.Bool.{Bool, true, false, cond}
 use mathlib.Core.Path.{◌≡◌, refl, sym, ap, ◌∙◌}
 use native.Mathlib.Omega.{arith}
 use borrow.Author.Tests.{le-leb, lt-leb, ltb-true, ltb-false, leb-true, leb-false}
 use lib.Dec.{leb, ltb, eqb}
 use lib.ListN.{length, get_or, take, drop, length-append, length-drop, drop_of_length-le}
 use lib.Seq.{drop-drop, take_at}
-use Rattle.memory.specs.Room.{placed}
+use Rattle.memory.specs.declared.Bar.{Bar}
+use Rattle.memory.specs.Putting.{end_of}
+use Rattle.memory.specs.Room.{placed, wrote_of, left_of, Written}
 use Rattle.memory.proofs.Pieces.{length_placed, placed_then, no_put}
 use Rattle.call.specs.declared.Call.{Call}
 use Rattle.trace.specs.declared.kind.RecordKind.{RecordKind}
@@ -22,18 +22,23 @@ use Rattle.trace.specs.Kind.{layout_of, size_of, record_kind_of}
 use Rattle.trace.specs.Ranges.{first_out_of}
 use Rattle.trace.specs.Reading.{record_of, named_of, entry_of, whole_of, element_of}
 use Rattle.trace.proofs.Rows.{least}
-use Rattle.trace_run.specs.declared.turn.Stand.{Stand}
-use Rattle.trace_run.specs.declared.turn.Move.{Move}
+use Rattle.trace_run.specs.declared.Stand.{Stand}
+use Rattle.trace_run.specs.declared.Worked.{Worked}
 use Rattle.table.specs.declared.settle.Outcome.{Outcome}
 use Rattle.table.specs.Halves.{look_of, committed}
 use Rattle.table.proofs.step.Planned.{plan_told, plan_put}
-use Rattle.table_promises.proofs.Table.{one_place}
-use Rattle.trace_run.specs.Front.{heeded_of, front_of, reference_in, event_in}
-use Rattle.trace_run.specs.Course.{turned_at, answered_at, Output}
-use Rattle.trace_run.specs.Entry.{planned_at}
+use Rattle.trace_run.specs.Front.{heeded_of, front_of}
+use Rattle.trace_run.specs.Course.{turned_at, answered_at, Output, lines}
+use Rattle.trace_run.specs.Entry.{columns_of}
+use Rattle.trace_lines.specs.Line.{line_of}
+use Rattle.table.specs.Plan.{plan_of}
 use Rattle.trace_run.specs.Run.{line_at, Ran, ran_text, rests, ends, goes, run_in, trace_run_of, so_far, WorkedOff}
-use Rattle.trace_run.specs.Turn.{halts}
-use Rattle.trace_run.specs.Move.{size_in, text_in, beginning, move_in, Moved}
+
+-- the octets of a whole record
+abbrev size_in : Option (Result Entry Fault) → ℕ
+size_in None = 0
+size_in (Some (Err f)) = 0
+size_in (Some (Ok e)) = size_of e.kind
 
 -- nothing stands at the front of no octets
 pub front_empty : (last : Bool) (c : List ℕ) (i : ℕ) → length c ≤ i → front_of last (drop i c) ≡ None
@@ -240,94 +245,89 @@ module _ (p : Output) (last : Bool) (first : List Call) (c l : List ℕ) (table 
 pub rest_is : (c : List ℕ) (i : ℕ) → take (length c - i) (drop i c) ≡ drop i c
 rest_is c i = ap (λ (l : List ℕ). take (length c - i) l) (sym (append-nil (drop i c))) ∙ take_at (drop i c) [] (length c - i) (rw length-drop)
 
--- ---- turn by turn: a run that goes on makes up what the whole piece makes, and one that does not has made it
+-- ---- turn by turn: what has been worked off, and what is left of the piece, make up what the whole piece makes
 pub record Kept (p : Output) (last : Bool) (first : List Call) (c l : List ℕ) (s : Stand) (table : List Call) (out : List ℕ) : Type 0 where
-  pub same : length table ≡ length first
-  pub long : length out ≡ length l
   pub counted : s.records ≤ s.used
-  pub going : s.more ≡ true → Goes p last first c l table out s.used s.wrote s.records
-  pub over : s.more ≡ false → WorkedOff p last first c l out (so_far table s.used s.wrote s.records s.end)
+  pub unended : s.end ≡ None
+  pub going : Goes p last first c l table out s.used s.wrote s.records
 
--- how much is left: less after each turn
-abbrev pub left_of : List ℕ → Stand → ℕ
-left_of c s = cond s.more (suc (length c - s.used)) 0
+-- a text that was written, and one that had no room
+record Took (at : ℕ) (p l l' : List ℕ) (n : ℕ) : Type 0 where
+  fits : at + length p ≤ length l
+  end : n ≡ at + length p
+  octets : l' ≡ placed at p l
 
-pub starts : (p : Output) (last : Bool) (first : List Call) (c l : List ℕ) → Kept p last first c l beginning first l
-starts p last first c l = record { same = refl; long = refl; counted = omega arith; going = λ _. start p last first c l; over = λ e. absurd (true≢false e) }
+record Full (at : ℕ) (p l l' : List ℕ) : Type 0 where
+  over : length l < at + length p
+  octets : l' ≡ l
 
-module _ (p : Output) (last : Bool) (first : List Call) (c l : List ℕ) (s : Stand) (table : List Call) (out : List ℕ) (kept : Kept p last first c l s table out) (more : s.more ≡ true) where
-  abbrev t : List ℕ
-  t = drop s.used c
+module _ {at : ℕ} {p l l' : List ℕ} where
+  took_by : {n : ℕ} (b : Bool) → leb (at + length p) (length l) ≡ b → ◌≡◌ {A = Result ℕ Bar} (Ok n) (cond b (Ok (at + length p)) (Err Bar.Room)) → l' ≡ cond b (placed at p l) l → Took at p l l' n
+  took_by true e a o = record { fits = leb-true _ _ e; end = ap end_of a; octets = o }
+  took_by false e a o = let z : ◌≡◌ {A = ℕ} 0 1 = cc in absurd (omega arith)
 
-  abbrev goes_on : Goes p last first c l table out s.used s.wrote s.records
-  goes_on = kept.going more
+  full_by : {b : Bar} (f : Bool) → leb (at + length p) (length l) ≡ f → ◌≡◌ {A = Result ℕ Bar} (Err b) (cond f (Ok (at + length p)) (Err Bar.Room)) → l' ≡ cond f (placed at p l) l → Full at p l l'
+  full_by true e a o = let z : ◌≡◌ {A = ℕ} 0 1 = cc in absurd (omega arith)
+  full_by false e a o = record { over = leb-false _ _ e; octets = o }
 
-  -- what one turn comes to
-  pub record Onward (out' : List ℕ) (m : Move) : Type 0 where
-    pub kept' : Kept p last first c l m.stand (committed table m.put) out'
-    pub less : left_of c m.stand < left_of c s
+  took : {n : ℕ} → Written true at p l l' (Ok n) → Took at p l l' n
+  unfolding wrote_of left_of
+  took w = took_by _ refl w.answer w.buffer
 
-  some_left : 0 < left_of c s
-  some_left = rw more (omega arith)
+  full : {b : Bar} → Written true at p l l' (Err b) → Full at p l l'
+  unfolding wrote_of left_of
+  full w = full_by _ refl w.answer w.buffer
 
-  halted : WorkedOff p last first c l out (so_far table s.used s.wrote s.records None) → Onward out (halts s)
-  halted w = record { kept' = record { same = kept.same; long = kept.long; counted = kept.counted; going = λ e. absurd (true≢false (sym e)); over = λ _. w }; less = some_left }
+-- look, plan and commit are a step of the table
+module _ (table : List Call) (e : Entry) (t : List ℕ) where
+  pub line_so : (x : Bool) → line_at (lines x) table e t ≡ line_of x (columns_of e (plan_of (look_of table e.reference e.event) e.event (element_of e t)).outcome)
+  unfolding line_at answered_at turned_at
+  line_so x = ap (λ (o : Outcome). line_of x (columns_of e o)) (sym (plan_told table e.reference e.event (element_of e t)))
 
-  shown : (e : Entry) → (planned_at (look_of table e.reference e.event) e t).outcome ≡ (turned_at table e t).outcome
-  unfolding planned_at turned_at
-  shown e = plan_told table e.reference e.event (element_of e t)
-
-  left_so : (e : Entry) → committed table (planned_at (look_of table e.reference e.event) e t).put ≡ (turned_at table e t).calls
-  unfolding planned_at turned_at
-  left_so e = plan_put table e.reference e.event (element_of e t)
-
-  line_so : (e : Entry) → text_in p (Some (Ok e)) (look_of table e.reference e.event) t ≡ line_at p table e t
-  unfolding line_at answered_at
-  line_so e = ap (λ (o : Outcome). p.line (record { entry = e; outcome = o })) (shown e)
-
-  same_so : (e : Entry) → length (turned_at table e t).calls ≡ length first
+  pub left_so : (turned_at table e t).calls ≡ committed table (plan_of (look_of table e.reference e.event) e.event (element_of e t)).put
   unfolding turned_at
-  same_so e = (one_place table e.reference e.event (element_of e t)).same ∙ kept.same
+  left_so = sym (plan_put table e.reference e.event (element_of e t))
 
-  abbrev turned : Option (Result Entry Fault) → Bool → Move
-  turned f b = cond b (move_in f (look_of table (reference_in f) (event_in f)) t s (s.wrote + length (text_in p f (look_of table (reference_in f) (event_in f)) t))) (halts s)
+module _ (p : Output) (last : Bool) (first : List Call) (c l : List ℕ) (s : Stand) (table : List Call) (out : List ℕ) (kept : Kept p last first c l s table out) where
+  -- the rest of the piece, as the code lends it on
+  abbrev t : List ℕ
+  t = take (length c - s.used) (drop s.used c)
 
-  abbrev left : Option (Result Entry Fault) → Bool → List ℕ
-  left f b = cond b (placed s.wrote (text_in p f (look_of table (reference_in f) (event_in f)) t) out) out
+  abbrev stands : Worked
+  stands = so_far table s.used s.wrote s.records s.end
 
-  turn_by : (f : Option (Result Entry Fault)) (b : Bool) → front_of last t ≡ f → leb (s.wrote + length (text_in p f (look_of table (reference_in f) (event_in f)) t)) (length out) ≡ b → Onward (left f b) (turned f b)
-  turn_by None true h r = rw (sym (no_put {at = s.wrote} {l = out}).octets) (halted (stop_waits p last first c l table out s.used s.wrote s.records goes_on h))
-  turn_by None false h r = halted (stop_waits p last first c l table out s.used s.wrote s.records goes_on h)
-  turn_by (Some (Err f)) true h r =
-      let n = leb-true _ _ r in
-      record {
-        kept' =
-            record {
-              same = kept.same;
-              long = length_placed s.wrote (p.fault f) out n ∙ kept.long;
-              counted = kept.counted;
-              going = λ e. absurd (true≢false (sym e));
-              over = λ _. fault_put p last first c l table out s.used s.wrote s.records goes_on h n;
-            };
-        less = some_left;
-      }
-  turn_by (Some (Err f)) false h r = halted (fault_full p last first c l table out s.used s.wrote s.records goes_on h (leb-false _ _ r))
-  turn_by (Some (Ok e)) true h r =
-      let n = leb-true _ _ (rw (line_so e) at r) in
-      let w = whole_fits last c s.used h in
-      record {
-        kept' =
-            record {
-              same = rw (left_so e) (same_so e);
-              long = rw (line_so e) (length_placed s.wrote (line_at p table e t) out n ∙ kept.long);
-              counted = omega (arith, kept.counted, least e.kind);
-              going = λ _. rw (left_so e, line_so e) (line_put p last first c l table out s.used s.wrote s.records e h n goes_on.fuel goes_on.going);
-              over = λ e. absurd (true≢false e);
-            };
-        less = rw more (omega (arith, least e.kind));
-      }
-  turn_by (Some (Ok e)) false h r = halted (line_full p last first c l table out s.used s.wrote s.records e h goes_on.fuel goes_on.going (leb-false _ _ (rw (line_so e) at r)))
+  pub waits : front_of last t ≡ None → WorkedOff p last first c l out stands
+  waits h = rw kept.unended (stop_waits p last first c l table out s.used s.wrote s.records kept.going (rw (rest_is c s.used) at h))
 
-  pub turns_on : {f : Option (Result Entry Fault)} {k : Result Seat Verdict} {out' : List ℕ} {m : Move} → f ≡ front_of last t → k ≡ look_of table (reference_in f) (event_in f) → Moved p f k t s out out' m → Onward out' m
-  turns_on {f} {k} ef ek w =
-      rw (w.turn, w.buffer, ek) (turn_by f (leb (s.wrote + length (text_in p f (look_of table (reference_in f) (event_in f)) t)) (length out)) (sym ef) refl)
+  -- a fault, with its text or without
+  pub faulty : {f : Fault} {n : ℕ} {out' : List ℕ} → front_of last t ≡ Some (Err f) → Written true s.wrote (p.fault f) out out' (Ok n) → WorkedOff p last first c l out' (so_far table s.used n s.records (Some f))
+  faulty h w =
+      let k = took w in
+      rw (k.octets, k.end) (fault_put p last first c l table out s.used s.wrote s.records kept.going (rw (rest_is c s.used) at h) k.fits)
+
+  pub faulty_full : {f : Fault} {b : Bar} {out' : List ℕ} → front_of last t ≡ Some (Err f) → Written true s.wrote (p.fault f) out out' (Err b) → WorkedOff p last first c l out' stands
+  faulty_full h w =
+      let k = full w in
+      rw (k.octets, kept.unended) (fault_full p last first c l table out s.used s.wrote s.records kept.going (rw (rest_is c s.used) at h) k.over)
+
+  -- a whole record, with its line or without
+  module _ (e : Entry) (h : front_of last t ≡ Some (Ok e)) where
+    whole : front_of last (drop s.used c) ≡ Some (Ok e)
+    whole = rw (rest_is c s.used) at h
+
+    pub within : s.used + size_of e.kind ≤ length c
+    within = let w = whole_fits last c s.used whole in let g = kept.going.going.within in omega arith
+
+    pub record_full : {b : Bar} {out' : List ℕ} → Written true s.wrote (line_at p table e t) out out' (Err b) → WorkedOff p last first c l out' stands
+    record_full w =
+        let k = full (rw (rest_is c s.used) at w) in
+        rw (k.octets, kept.unended) (line_full p last first c l table out s.used s.wrote s.records e whole kept.going.fuel kept.going.going k.over)
+
+    pub onward : {n : ℕ} {out' : List ℕ} → Written true s.wrote (line_at p table e t) out out' (Ok n) → Kept p last first c l (record { used = s.used + size_of e.kind; wrote = n; records = s.records + 1; end = None }) (turned_at table e t).calls out'
+    onward w =
+        let k = took (rw (rest_is c s.used) at w) in
+        record {
+          counted = let a = kept.counted in let b = least e.kind in omega arith;
+          unended = refl;
+          going = rw (k.octets, k.end, rest_is c s.used) (line_put p last first c l table out s.used s.wrote s.records e whole k.fits kept.going.fuel kept.going.going);
+        }

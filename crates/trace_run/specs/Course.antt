@@ -1,7 +1,6 @@
 -- The course of a trace at a table: its events, each with what it is answered. What a program prints or counts is made
 -- from that list.
-use Rattle.std.specs.Prelude.{Option, Some, None, Result, Ok, Err}
-use Rattle.std.specs.Prelude.{ℕ, zero, suc, List, [], ◌∷◌, ◌++◌, Bool, length, drop}
+use Rattle.std.specs.Prelude.{Option, Some, None, Result, Ok, Err, ℕ, zero, suc, List, [], ◌∷◌, ◌++◌, Bool, length, drop}
 use Rattle.call.specs.declared.Call.{Call}
 use Rattle.table.specs.declared.settle.Outcome.{Outcome}
 use Rattle.table.specs.Step.{step_outcome, step_table}

@@ -1,8 +1,6 @@
--- What a piece of trace begins with, and what that asks of the table.
-use Rattle.std.specs.Prelude.{Option, Some, None, Result, Ok, Err}
+-- What a piece of trace begins with.
+use Rattle.std.specs.Prelude.{Option, Some, None, Result, Ok, Err, ℕ, List, Bool, cond}
 use Rattle.trace.specs.declared.Entry.{Entry}
-use Rattle.std.specs.Prelude.{ℕ, List, Bool, cond}
-use Rattle.event.specs.declared.Event.{Event}
 use Rattle.trace.specs.declared.Fault.{Fault}
 use Rattle.trace.specs.Reading.{record_of}
 
@@ -17,14 +15,3 @@ heeded_of last (Some (Err (Fault.Range f))) = Some (Err (Fault.Range f))
 -- what a piece of trace begins with; last says that nothing comes after the piece
 unfoldable pub front_of : Bool → List ℕ → Option (Result Entry Fault)
 front_of last t = heeded_of last (record_of t)
-
--- what the table is asked; where there is no whole record the answer is not heeded
-abbrev pub reference_in : Option (Result Entry Fault) → ℕ
-reference_in None = 0
-reference_in (Some (Err f)) = 0
-reference_in (Some (Ok e)) = e.reference
-
-abbrev pub event_in : Option (Result Entry Fault) → Event
-event_in None = Event.Tick
-event_in (Some (Err f)) = Event.Tick
-event_in (Some (Ok e)) = e.event

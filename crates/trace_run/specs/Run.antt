@@ -1,6 +1,5 @@
 -- A trace, worked off piece by piece, with a buffer for what is put out: any p says what that is.
-use Rattle.std.specs.Prelude.{Option, Some, None, Result, Ok, Err}
-use Rattle.std.specs.Prelude.{ℕ, zero, suc, ◌+◌, ◌-◌, List, [], ◌∷◌, Bool, cond, ◌≡◌, length, drop, leb}
+use Rattle.std.specs.Prelude.{Option, Some, None, Result, Ok, Err, ℕ, zero, suc, ◌+◌, ◌-◌, List, [], ◌∷◌, Bool, cond, ◌≡◌, length, drop, leb}
 use Rattle.memory.specs.Room.{placed}
 use Rattle.call.specs.declared.Call.{Call}
 use Rattle.trace.specs.declared.Entry.{Entry}

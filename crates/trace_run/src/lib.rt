@@ -1,30 +1,36 @@
 // A piece of trace worked off at a lent table, or at one by value: each record's event, and its line.
 #![tactic(auto)]
 
-ghost use Rattle.std.specs.Prelude.{◌≡◌, false, ◌+◌, ◌≤◌, length, drop};
-ghost use Rattle.trace.specs.Kind.{size_of};
-ghost use Rattle.trace_run.specs.Front.{front_of};
-ghost use Rattle.trace_run.specs.Course.{lines};
-ghost use Rattle.trace_run.specs.Run.{so_far, WorkedOff};
-ghost use Rattle.trace_run.specs.Move.{size_in, beginning, Moved};
+ghost use Rattle.std.specs.Prelude.{◌≡◌, true, IfOk, IfErr};
+ghost use Rattle.memory.specs.Room.{Written};
+ghost use Rattle.trace_run.specs.Course.{turned_at, lines};
+ghost use Rattle.trace_run.specs.Run.{line_at, so_far, WorkedOff};
 
-use crate::entry::{columns_of, planned};
-use crate::front::{event_in, front_of, reference_in};
-use crate::turn::{Move, Stand, fault_turn, moves, once_written};
+use crate::entry::columns_of;
+use crate::front::front_of;
 use call::Call;
-use table::plan::Seat;
+use memory::Bar;
+use table::plan::plans;
 use table::step::{commit, look};
-use table::verdict::Verdict;
 use trace::kind::size;
-use trace::{Entry, Fault};
+use trace::{Entry, Fault, element};
+use trace_lines::notices::write_fault;
 use trace_lines::report::write_line;
 
 mod entry;
 pub mod front;
-pub mod turn;
 
-// used: how many octets of the piece; wrote: how many octets of text; records: how many records; end: whether a fault
-// ended the run.
+// Where a run stands. used: how many octets of the piece; wrote: how many octets of text; records: how many records;
+// end: the fault that ended the run.
+#[derive(Clone, Copy)]
+pub struct Stand {
+    pub used: usize,
+    pub wrote: usize,
+    pub records: usize,
+    pub end: Option<Fault>,
+}
+
+// The table that a piece leaves, and where the run then stands: its parts one by one, as `WorkedOff` names them.
 #[derive(Clone, Copy)]
 pub struct Worked {
     pub calls: [Call; 32],
@@ -34,116 +40,30 @@ pub struct Worked {
     pub end: Option<Fault>,
 }
 
-// The front of what is left of the piece.
-fn front_at(last: bool, piece: &[u8], s: Stand) -> Option<Result<Entry, Fault>>
-    ensures { result ≡ front_of last (drop s.used piece.now) }
-{
-    let i = s.used;
-    if i <= piece.len() {
-        front_of(last, &piece[i..])
-    } else {
-        None
-    }
-}
-
-// A whole record prints its line, and only then has something put into the table.
+// A whole record, which `rest` begins with, prints its line, and only then has something put into the table.
+#[tactic(auto, using(crate::proofs::Running::line_so, crate::proofs::Running::left_so))]
 fn record_turn(
-    piece: &[u8],
+    t: &mut [Call],
     e: Entry,
-    l: Result<Seat, Verdict>,
+    rest: &[u8],
     explained: bool,
     out: &mut [u8],
-    s: Stand,
-) -> Move
-    requires { (s.used + size_of e.kind ≤ length piece.now) × (s.records ≤ s.used) }
-    ensures { Moved (lines explained) (Some (Ok e)) l (drop s.used piece.now) s out.old out.new result }
+    at: usize,
+) -> Result<usize, Bar>
+    ensures text { Written true at (line_at (lines explained) t.old e rest.now) out.old out.new result }
+    ensures taken { IfOk result (λ wrote. t.new ≡ (turned_at t.old e rest.now).calls) }
+    ensures refused { IfErr result (λ bar. t.new ≡ t.old) }
 {
-    let i = s.used;
-    let k = s.wrote;
-    let kind = e.kind;
-    let n = size(kind);
-    let next = i + n;
-    let records = s.records + 1;
-    let p = planned(l, e, &piece[i..]);
-    let outcome = p.outcome;
-    let put = p.put;
-    let columns = columns_of(e, outcome);
-    let w = write_line(out, k, explained, columns);
-    once_written(w, put, next, records, None, true, s)
-}
-
-// One turn: what the front of the piece makes of the run.
-fn decide(
-    piece: &[u8],
-    f: Option<Result<Entry, Fault>>,
-    l: Result<Seat, Verdict>,
-    explained: bool,
-    out: &mut [u8],
-    s: Stand,
-) -> Move
-    requires { (s.used + size_in f ≤ length piece.now) × (s.records ≤ s.used) }
-    ensures { Moved (lines explained) f l (drop s.used piece.now) s out.old out.new result }
-{
-    match f {
-        None => {
-            let i = s.used;
-            let k = s.wrote;
-            let n = s.records;
-            moves(None, i, k, n, None, false)
-        }
-        Some(Err(x)) => fault_turn(x, out, s),
-        Some(Ok(e)) => record_turn(piece, e, l, explained, out, s),
-    }
-}
-
-// The two parts of a turn.
-fn put_in(m: Move) -> Option<Seat>
-    ensures { result ≡ m.put }
-{
-    m.put
-}
-
-fn stand_in(m: Move) -> Stand
-    ensures { result ≡ m.stand }
-{
-    m.stand
-}
-
-// Nothing is used and nothing printed.
-fn at_start() -> Stand
-    ensures { result ≡ beginning }
-{
-    Stand {
-        used: 0,
-        wrote: 0,
-        records: 0,
-        end: None,
-        more: true,
-    }
-}
-
-fn goes_on(s: Stand) -> bool
-    ensures { result ≡ s.more }
-{
-    s.more
-}
-
-fn so_far(calls: [Call; 32], s: Stand) -> Worked
-    ensures { result ≡ so_far calls s.used s.wrote s.records s.end }
-{
-    let end = s.end;
-    Worked {
-        calls: calls,
-        used: s.used,
-        wrote: s.wrote,
-        records: s.records,
-        end: end,
-    }
+    let plan = plans(look(t, e.reference, e.event), e.event, element(rest, e));
+    let wrote = write_line(out, at, explained, columns_of(e, plan.outcome))?;
+    commit(t, plan.put);
+    Ok(wrote)
 }
 
 // Works off the records at the front of a piece of trace, at a table that is lent for the whole of it: as many as are
 // whole and have lines that fit the buffer, up to a fault. last: nothing comes after the piece. What was not used is
-// the front of the next piece.
+// the front of the next piece. explained: a flag, as the definition `lines` takes it. What was used, written and worked
+// off is counted by the loop itself: the counts are the answer, as `WorkedOff` says.
 pub fn work_off_at(
     t: &mut [Call],
     piece: &[u8],
@@ -151,26 +71,46 @@ pub fn work_off_at(
     explained: bool,
     out: &mut [u8],
 ) -> Stand
-    ensures { WorkedOff (lines explained) last t.old piece.now out.old out.new (so_far t.new result.used result.wrote result.records result.end) × (result.more ≡ false) }
+    ensures { WorkedOff (lines explained) last t.old piece.now out.old out.new (so_far t.new result.used result.wrote result.records result.end) }
 {
-    let mut s = at_start();
-    while goes_on(s) {
-        let f = front_at(last, piece, s);
-        let n = reference_in(f);
-        let e = event_in(f);
-        let l = look(&*t, n, e);
-        let m = decide(piece, f, l, explained, out, s);
-        let p = put_in(m);
-        commit(t, p);
-        let next = stand_in(m);
-        s = next;
+    let mut s = Stand {
+        used: 0,
+        wrote: 0,
+        records: 0,
+        end: None,
+    };
+    'records: loop {
+        let rest = &piece[s.used..];
+        match front_of(last, rest) {
+            None => return s,
+            Some(Err(fault)) => {
+                return match write_fault(out, s.wrote, fault) {
+                    Ok(wrote) => Stand {
+                        wrote,
+                        end: Some(fault),
+                        ..s
+                    },
+                    Err(_) => s,
+                };
+            }
+            Some(Ok(e)) => match record_turn(t, e, rest, explained, out, s.wrote) {
+                Ok(wrote) => {
+                    s = Stand {
+                        used: s.used + size(e.kind),
+                        wrote,
+                        records: s.records + 1,
+                        end: None,
+                    };
+                }
+                Err(_) => return s,
+            },
+        }
     }
-    s
 }
 
 // The same for a table by value, which goes in and comes out once a piece.
 pub fn work_off(
-    calls: [Call; 32],
+    mut calls: [Call; 32],
     piece: &[u8],
     last: bool,
     explained: bool,
@@ -178,8 +118,12 @@ pub fn work_off(
 ) -> Worked
     ensures { WorkedOff (lines explained) last calls piece.now out.old out.new result }
 {
-    let mut t = calls;
-    let s = work_off_at(&mut t, piece, last, explained, out);
-    let w = so_far(t, s);
-    w
+    let s = work_off_at(&mut calls, piece, last, explained, out);
+    Worked {
+        calls,
+        used: s.used,
+        wrote: s.wrote,
+        records: s.records,
+        end: s.end,
+    }
 }

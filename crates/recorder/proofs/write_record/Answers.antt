@@ -1,21 +1,27 @@
-use Rattle.std.proofs.Common.{sym, ◌∙◌}
+use Rattle.std.proofs.Common.{rules, ◌≡◌, sym, ◌∙◌, take, Some, Err}
+use Rattle.memory.specs.declared.Bar.{Bar}
 use Rattle.memory.proofs.Outcome.{barred, in_range_lem}
-use Rattle.recorder.proofs.Sizing.{head_small, fits_small}
-use Rattle.recorder.proofs.Joining.{the_record}
+use Rattle.recorder.specs.Writing.{kind_for, record_octets}
+use Rattle.recorder.proofs.Sizing.{fits_small}
+use Rattle.recorder.proofs.Joining.{of_kind, no_kind}
 use Rattle.recorder.proofs.write_record.Goals as goal
 
 pub returns-then-not-record_fits : goal.returns-then-not-record_fits
 returns-then-not-record_fits c = barred (sym c.record_fits.ensures ∙ c.if-not-record_fits.true)
 
-pub joined-record-requires : goal.joined-record-requires
-joined-record-requires c = (
-  rw c.head_of-head.ensures.size (head_small c.args.r c.args.e),
-  fits_small c.args.r c.args.e c.args.u.now (sym c.record_fits.ensures ∙ c.if-not-record_fits.false),
-)
+pub record_of-record-requires : goal.record_of-record-requires
+record_of-record-requires c = fits_small c.args.r c.args.e c.args.u.now (sym c.record_fits.ensures ∙ c.if-not-record_fits.false)
+
+pub returns-in_err-k : goal.returns-in_err-k
+returns-in_err-k c =
+    let n = no_kind c.args.r c.args.e c.args.u.now (sym c.kind_for.ensures ∙ c.in_err-k.ensures.ok_part) in
+    let b : Bar.Range ≡ c.in_err-k.field-0.0 = search (rules, c.in_err-k.ensures.value, c.in_err-k.ensures.ok_part) in
+    let r : c.from_residual.result ≡ Err Bar.Range = search (rules, c.from_residual.ensures, b) in
+    rw r (barred n)
 
 pub returns : goal.returns
 returns c =
-    in_range_lem (sym c.record_fits.ensures ∙ c.if-not-record_fits.false)
-    (rw
-    (← (the_record c.args.r c.args.e c.args.u.now c.joined-record.result c.head_of-head.result c.head_of-head.ensures c.joined-record.ensures c.fielded.ensures c.size_of-n.ensures))
-    c.write_octets.ensures)
+    let k : kind_for c.args.e ≡ Some c.in_ok-k.k = sym c.kind_for.ensures ∙ c.in_ok-k.ensures.ok_part in
+    let r : take c.size.result c.record_of-record.result ≡ record_octets c.args.r c.args.e c.args.u.now =
+    rw c.size.ensures (c.record_of-record.ensures ∙ sym (of_kind c.args.r c.args.e c.args.u.now c.in_ok-k.k k)) in
+    in_range_lem (sym c.record_fits.ensures ∙ c.if-not-record_fits.false) (rw r at c.write_octets.ensures)

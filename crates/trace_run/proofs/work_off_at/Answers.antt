@@ -1,30 +1,47 @@
-use Rattle.std.proofs.Common.{sym, ◌∙◌, ◌≡◌, ◌<◌, true}
+use Rattle.std.proofs.Common.{sym, arith, refl}
+use Rattle.trace.proofs.Rows.{least}
 use Rattle.trace_run.specs.Course.{lines}
-use Rattle.trace_run.proofs.Running.{left_of, starts, front_fits, turns_on}
+use Rattle.trace_run.proofs.Running.{start, waits, faulty, faulty_full, within, record_full, onward}
 use Rattle.trace_run.proofs.work_off_at.Goals as goal
 
-pub loop-f-init : goal.loop-f-init
-loop-f-init c = rw c.at_start-s.ensures (starts (lines c.args.explained) c.args.last c.args.t.now c.args.piece.now c.args.out.now)
+pub records-init : goal.records-init
+records-init c =
+    record {
+      counted = omega arith;
+      unended = refl;
+      going = start (lines c.args.explained) c.args.last c.args.t.now c.args.piece.now c.args.out.now;
+    }
 
-pub decide-m-requires : goal.decide-m-requires
-decide-m-requires c =
-    let k = c.loop-f.invariant in
-    let m : c.loop-f.s.more ≡ true = sym c.goes_on.ensures ∙ c.loop-f-test.true in
-    (rw c.front_at-f.ensures (front_fits c.args.last c.args.piece.now c.loop-f.s.used (k.going m).going.within), k.counted)
+pub returns-in-None : goal.returns-in-None
+returns-in-None c =
+    waits (lines c.args.explained) c.args.last c.args.t.now c.args.piece.now c.args.out.now c.records.s c.records.t c.records.out c.records.invariant
+    (sym c.in-None.ensures)
 
-pub loop-f-smaller : goal.loop-f-smaller
-loop-f-smaller c =
-    let k = c.loop-f.invariant in
-    let m : c.loop-f.s.more ≡ true = sym c.goes_on.ensures ∙ c.loop-f-test.true in
-    let l = rw (c.reference_in-n.ensures, c.event_in-e.ensures) at c.look-l.ensures in
-    let on = turns_on (lines c.args.explained) c.args.last c.args.t.now c.args.piece.now c.args.out.now c.loop-f.s c.loop-f.t c.loop-f.out k m c.front_at-f.ensures l c.decide-m.ensures in
-    let less : left_of c.args.piece.now c.stand_in-next.result < left_of c.args.piece.now c.loop-f.s = rw c.stand_in-next.ensures on.less in
-    less
+pub returns-in-Ok : goal.returns-in-Ok
+returns-in-Ok c =
+    faulty (lines c.args.explained) c.args.last c.args.t.now c.args.piece.now c.args.out.now c.records.s c.records.t c.records.out c.records.invariant
+    (sym (rw c.in-Some-Err.field-0-is at c.in-Some-Err.ensures)) c.in-Ok.ensures
 
-pub loop-f-preserved : goal.loop-f-preserved
-loop-f-preserved c =
-    let k = c.loop-f.invariant in
-    let m : c.loop-f.s.more ≡ true = sym c.goes_on.ensures ∙ c.loop-f-test.true in
-    let l = rw (c.reference_in-n.ensures, c.event_in-e.ensures) at c.look-l.ensures in
-    let on = turns_on (lines c.args.explained) c.args.last c.args.t.now c.args.piece.now c.args.out.now c.loop-f.s c.loop-f.t c.loop-f.out k m c.front_at-f.ensures l c.decide-m.ensures in
-    rw (c.stand_in-next.ensures, c.commit.ensures, c.put_in-p.ensures) on.kept'
+pub returns-in-Err : goal.returns-in-Err
+returns-in-Err c =
+    faulty_full (lines c.args.explained) c.args.last c.args.t.now c.args.piece.now c.args.out.now c.records.s c.records.t c.records.out c.records.invariant
+    (sym (rw c.in-Some-Err.field-0-is at c.in-Some-Err.ensures)) c.in-Err.ensures
+
+pub returns-in-Err-record_turn : goal.returns-in-Err-record_turn
+returns-in-Err-record_turn c =
+    rw c.in-Err-record_turn.ensures.refused
+    (record_full (lines c.args.explained) c.args.last c.args.t.now c.args.piece.now c.args.out.now c.records.s c.records.t c.records.out c.records.invariant
+    c.in-Some-Ok.e (sym (rw c.in-Some-Ok.field-0-is at c.in-Some-Ok.ensures)) c.in-Err-record_turn.ensures.text)
+
+pub records-smaller : goal.records-smaller
+records-smaller c =
+    let w = within (lines c.args.explained) c.args.last c.args.t.now c.args.piece.now c.args.out.now c.records.s c.records.t c.records.out c.records.invariant
+    c.in-Some-Ok.e (sym (rw c.in-Some-Ok.field-0-is at c.in-Some-Ok.ensures)) in
+    let l = least c.in-Some-Ok.e.kind in
+    rw c.size.ensures (omega (arith, w, l))
+
+pub records-preserved : goal.records-preserved
+records-preserved c =
+    rw (c.size.ensures, c.in-Ok-record_turn.ensures.taken)
+    (onward (lines c.args.explained) c.args.last c.args.t.now c.args.piece.now c.args.out.now c.records.s c.records.t c.records.out c.records.invariant
+    c.in-Some-Ok.e (sym (rw c.in-Some-Ok.field-0-is at c.in-Some-Ok.ensures)) c.in-Ok-record_turn.ensures.text)

@@ -1,12 +1,11 @@
-use Rattle.std.proofs.Common.{◌∙◌}
-use Rattle.trace.proofs.Blank.{spoilt, next, all_blank}
+use Rattle.std.proofs.Common.{rules, tests, eqb, drop, ◌∙◌}
+use Rattle.std.proofs.lemmas.Iterator.{YieldsList-from_slice}
+use Rattle.std.proofs.lemmas.Iterator.Adapters.{YieldsList-from_skip}
+use Rattle.std.proofs.lemmas.Iterator.Search.{all_from_yields_List}
+use Rattle.trace.proofs.Blank.{all_blank}
 use Rattle.trace.proofs.element_field.blank.Goals as goal
 
-pub returns-then-s-i-ne0 : goal.returns-then-s-i-ne0
-returns-then-s-i-ne0 c = spoilt _ _ c.loop-i-test.true c.if-s-i-ne0.true ∙ c.loop-i.invariant
-
-pub loop-i-preserved : goal.loop-i-preserved
-loop-i-preserved c = next _ _ c.loop-i-test.true c.if-s-i-ne0.false ∙ c.loop-i.invariant
-
 pub returns : goal.returns
-returns c = all_blank _ _ c.loop-i-test.false ∙ c.loop-i.invariant
+returns c =
+    all_from_yields_List (λ x. eqb x 0) _ _ c.all.result c.all.ensures.ran (YieldsList-from_skip c.args.from (YieldsList-from_slice c.args.s.now cc) cc) (λ x b q k. search (rules, tests))
+    ∙ all_blank (drop c.args.from c.args.s.now)
