@@ -5,84 +5,42 @@
 use capture::frames::digest;
 use capture::margins::{later, write_first, write_last};
 use memory::end_of;
-use streams::{Host, fetch, held, send};
+use streams::{Failed, Host, fetch, held, send};
 
-// What of the capture is in the buffer and not printed yet: the octets from one place to another, of which the first
-// has an offset in the capture.
-#[derive(Clone, Copy)]
-struct Held {
-    from: usize,
-    to: usize,
-    offset: u64,
-    more: bool,
-    ended: bool,
-}
-
-// What is held goes to the buffer's front, and more is read after it. Nothing more comes at the capture's end, nor
-// after a read that failed; only at the end is what is left known to be cut.
-fn refill(rt: &impl Host, buf: &mut [u8], from: usize, to: usize, offset: u64) -> Held {
-    let f = fetch(rt, buf, from, to);
-    Held {
-        from: 0,
-        to: f.to,
-        offset: offset,
-        more: f.came,
-        ended: !f.came & !f.failed,
+// Prints the capture from its start to its end. Only there is it known that what is left over is cut. Nothing more is
+// read or written after a read or a write that failed.
+fn print(rt: &impl Host) -> Result<(), Failed> {
+    let mut buf = [0u8; 131072];
+    let mut out = [0u8; 131072];
+    // A line is written into a buffer from a place on, as `Written` says it of every writer, and sent from there.
+    let first = end_of(write_first(&mut out, 0));
+    send(rt, held(&out, 0, first))?;
+    // What of the capture is in the buffer and not printed yet, from one place to another, and the offset of its first
+    // octet in the capture.
+    let mut from: usize = 0;
+    let mut to: usize = 0;
+    let mut offset: u64 = 0;
+    // The capture is read to its end. A loop has to be seen to end, so its turns are counted.
+    for _ in 0..u64::MAX {
+        let done = digest(held(&buf, from, to), offset, &mut out);
+        if done.used > 0 {
+            send(rt, held(&out, 0, done.wrote))?;
+            from = from.wrapping_add(done.used);
+            offset = later(offset, done.used);
+        } else {
+            let fetched = fetch(rt, &mut buf, from, to);
+            from = 0;
+            to = fetched.to;
+            if !fetched.came? {
+                let last = end_of(write_last(&mut out, 0, to));
+                return send(rt, held(&out, 0, last));
+            }
+        }
     }
-}
-
-// Prints what can be printed of what is held, or reads more.
-fn turn(rt: &impl Host, buf: &mut [u8], out: &mut [u8], h: Held) -> Held {
-    let from = h.from;
-    let to = h.to;
-    let offset = h.offset;
-    let d = digest(held(buf, from, to), offset, out);
-    let used = d.used;
-    if used == 0 {
-        return refill(rt, buf, from, to, offset);
-    }
-    let sent = send(rt, out, d.wrote);
-    Held {
-        from: from.wrapping_add(used),
-        to: to,
-        offset: later(offset, used),
-        more: sent,
-        ended: false,
-    }
-}
-
-fn step(rt: &impl Host, buf: &mut [u8; 131072], out: &mut [u8; 131072], h: Held) -> Held {
-    turn(rt, buf, out, h)
-}
-
-fn first(rt: &impl Host, out: &mut [u8; 131072]) -> bool {
-    let n = end_of(write_first(out, 0));
-    send(rt, out, n)
-}
-
-// After a failure of standard input or output nothing more is written.
-fn last(rt: &impl Host, out: &mut [u8; 131072], ended: bool, left: usize) -> bool {
-    if !ended {
-        return false;
-    }
-    let n = end_of(write_last(out, 0, left));
-    send(rt, out, n)
+    Ok(())
 }
 
 fn main(rt: HostRuntime) {
-    let mut buf = [0u8; 131072];
-    let mut out = [0u8; 131072];
-    let mut h = Held {
-        from: 0,
-        to: 0,
-        offset: 0,
-        more: first(&rt, &mut out),
-        ended: false,
-    };
-    let mut turns = u64::MAX;
-    while turns > 0 && h.more {
-        h = step(&rt, &mut buf, &mut out, h);
-        turns -= 1;
-    }
-    last(&rt, &mut out, h.ended, h.to);
+    // Where a read or a write failed, that was said.
+    let _ = print(&rt);
 }

@@ -1,6 +1,6 @@
 -- A buffer that more was read into, after what it holds.
 use Prim.Native.Nat.{ℕ, zero, suc, ◌+◌, ◌-◌, ◌≤◌}
-use mathlib.Core.Bool.{false, ◌&&◌}
+use mathlib.Core.Bool.{Bool}
 use mathlib.Core.List.{List}
 use mathlib.Core.Path.{◌≡◌, refl, sym, ◌∙◌}
 use native.Mathlib.Omega.{arith}
@@ -11,8 +11,9 @@ use lib.Seq.{take_at, length-take-le}
 use Rattle.logic.proofs.Decide.{by_cond}
 use Rattle.memory.specs.Room.{placed, kept_of, Kept}
 use Rattle.memory.proofs.Pieces.{length_placed}
-use Rattle.streams.specs.declared.system.Outcome.{Outcome}
-use Rattle.streams.specs.Outcome.{count_of, failed_of}
+use Rattle.std.specs.Prelude.{Result}
+use Rattle.streams.specs.declared.Failed.{Failed}
+use Rattle.streams.specs.Outcome.{came_of}
 use Rattle.streams.specs.Refill.{ReadAfter, Refilled}
 
 kept_fits : (from to : ℕ) (l : List ℕ) → length (kept_of from to l) ≤ length l
@@ -28,18 +29,10 @@ later : (n r : ℕ) → ltb 0 r ≡ ltb n (n + r)
 later n zero = sym (le-ltb n (n + 0) (omega arith))
 later n (suc r) = lt-ltb 0 (suc r) (omega arith) ∙ sym (lt-ltb n (n + suc r) (omega arith))
 
--- a read that failed gave nothing
-gave_nothing : (o : Outcome) → (ltb 0 (count_of o) && failed_of o) ≡ false
-gave_nothing (Outcome.Count zero) = refl
-gave_nothing (Outcome.Count (suc n)) = rw (lt-ltb 0 (suc n) (omega arith)) refl
-gave_nothing Outcome.Again = refl
-gave_nothing Outcome.Failed = refl
-
 -- what is kept stands at the front, and so it does after the read
-pub refills : {from to n : ℕ} {l k l' : List ℕ} (o : Outcome) → Kept from to l k n → ReadAfter n k l' (count_of o) → Refilled from to l l' (record { to = n + count_of o; came = ltb 0 (count_of o); failed = failed_of o })
+pub refills : {from to n r t : ℕ} {l k l' : List ℕ} {b : Result Bool Failed} → t ≡ n + r → came_of b ≡ ltb 0 r → Kept from to l k n → ReadAfter n k l' r → Refilled from to l l' (record { to = t; came = b })
 unfolding placed
-refills {from} {to} {n} {l} {k} {l'} o h a =
-    let r = count_of o in
+refills {from} {to} {n} {r} {t} {l} {k} {l'} e₀ told h a =
     let q = kept_of from to l in
     let f = kept_fits from to l in
     let e : length k ≡ length l = rw h.buffer (length_placed 0 q l (omega (arith, f))) in
@@ -48,6 +41,5 @@ refills {from} {to} {n} {l} {k} {l'} o h a =
       long = a.long ∙ e;
       least = omega (arith, h.count);
       most = omega (arith, f, e, h.count, a.long, a.room);
-      told = rw (← h.count) (later n r);
-      either = gave_nothing o;
+      told = rw (e₀, ← h.count) (told ∙ later n r);
     }

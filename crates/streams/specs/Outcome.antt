@@ -1,14 +1,14 @@
 -- What a call of the system's that moves octets came to.
-use Rattle.std.specs.Prelude.{ℕ, Bool, true, false}
-use Rattle.streams.specs.declared.system.Outcome.{Outcome}
+use Rattle.std.specs.Prelude.{ℕ, Option, Some, None, Result, Ok, Err, Bool, false}
+use Rattle.streams.specs.declared.Failed.{Failed}
 
 -- how many octets were moved
-abbrev pub count_of : Outcome → ℕ
-count_of (Outcome.Count n) = n
-count_of Outcome.Again = 0
-count_of Outcome.Failed = 0
+abbrev pub count_of : Result (Option ℕ) Failed → ℕ
+count_of (Ok (Some n)) = n
+count_of (Ok None) = 0
+count_of (Err e) = 0
 
-abbrev pub failed_of : Outcome → Bool
-failed_of (Outcome.Count n) = false
-failed_of Outcome.Again = false
-failed_of Outcome.Failed = true
+-- whether anything came; nothing does by a call that failed
+abbrev pub came_of : Result Bool Failed → Bool
+came_of (Ok b) = b
+came_of (Err e) = false

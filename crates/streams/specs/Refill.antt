@@ -1,7 +1,8 @@
 -- What is held of a buffer while more is read after it. What was read stays unsaid: no contract can say it.
-use Rattle.std.specs.Prelude.{ℕ, ◌-◌, ◌≤◌, false, ◌&&◌, List, ◌≡◌, length, take, ltb}
+use Rattle.std.specs.Prelude.{ℕ, ◌-◌, ◌≤◌, List, ◌≡◌, length, take, ltb}
 use Rattle.memory.specs.Room.{kept_of}
 use Rattle.streams.specs.declared.Fetched.{Fetched}
+use Rattle.streams.specs.Outcome.{came_of}
 
 -- the answer r, and the buffer l' that is left, where one read went after the first octets of l, n of them: these stay,
 -- and no more came than the buffer has room for after them
@@ -18,5 +19,4 @@ pub record Refilled (from to : ℕ) (l l' : List ℕ) (r : Fetched) : Type 0 whe
   pub long : length l' ≡ length l
   pub least : length (kept_of from to l) ≤ r.to
   pub most : r.to ≤ length l'
-  pub told : r.came ≡ ltb (length (kept_of from to l)) r.to
-  pub either : (r.came && r.failed) ≡ false
+  pub told : came_of r.came ≡ ltb (length (kept_of from to l)) r.to

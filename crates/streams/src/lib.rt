@@ -6,12 +6,12 @@
 
 mod system;
 
-ghost use Rattle.std.specs.Prelude.{◌≡◌, ◌≤◌, length};
+ghost use Rattle.std.specs.Prelude.{◌≡◌, ◌≤◌, length, IfOk, MatchResult};
 ghost use Rattle.memory.specs.Room.{kept_of};
 ghost use Rattle.streams.specs.Outcome.{count_of};
 ghost use Rattle.streams.specs.Refill.{ReadAfter, Refilled};
 
-use crate::system::{Outcome, complain, count_of, has_failed, is_open, outcome_of};
+use crate::system::{complain, outcome_of};
 use memory::keep;
 use std::io::{Error, Input, Print, Read};
 use std::time::Clock;
@@ -28,88 +28,80 @@ impl Host for HostRuntime {
     }
 }
 
-// to: where what the buffer holds ends now; came: whether anything was read; failed: whether nothing was because the
-// read failed, and not because the input has ended.
+// Nothing more can be read or sent: a call of the system's failed, and it was said why, or `send` came to the end of
+// its tries.
+#[derive(Clone, Copy)]
+pub struct Failed;
+
+// to: where what the buffer holds ends now; came: whether anything was read, where the read did not fail. Both are told
+// in each case, a failed read too: what is held stays, as `Refilled` says.
 #[derive(Clone, Copy)]
 pub struct Fetched {
     pub to: usize,
-    pub came: bool,
-    pub failed: bool,
+    pub came: Result<bool, Failed>,
 }
 
-// One write. Nothing taken of something is a failure, or it would be tried for ever.
-fn write_once(rt: &impl Host, piece: &[u8]) -> Outcome
-    ensures { count_of result ≤ length piece.now }
+// One write. Nothing taken of something is a failure, or it would be tried for ever; the system names no error for it,
+// which its number 0 says.
+fn write_once(rt: &impl Host, piece: &[u8]) -> Result<usize, Failed>
+    ensures { IfOk result (λ n. n ≤ length piece.now) }
 {
     let took = rt.write_some(piece);
     if let Ok(0) = took {
         complain(rt, "write failed", Error::from_raw_os_error(0));
-        return Outcome::Failed;
+        return Err(Failed);
     }
-    outcome_of(rt, took, "write failed")
+    Ok(outcome_of(rt, took, "write failed")?.unwrap_or(0))
 }
 
-// Sends the first octets of a buffer, n of them: false where it has fewer, or where they did not all go out. The loop
-// ends by a count of its tries, since nothing says that a call which would have to wait does better the next time.
-pub fn send(rt: &impl Host, out: &[u8], n: usize) -> bool {
-    if n > out.len() {
-        return false;
+// Sends a piece of octets. The loop ends by a count of its tries, since nothing says that a call which would have to
+// wait does better the next time.
+pub fn send(rt: &impl Host, piece: &[u8]) -> Result<(), Failed> {
+    let mut rest = piece;
+    for _ in 0..u64::MAX {
+        if rest.is_empty() {
+            return Ok(());
+        }
+        let took = write_once(rt, rest)?;
+        rest = &rest[took..];
     }
-    let mut i: usize = 0;
-    let mut well = true;
-    let mut tries = u64::MAX;
-    while tries > 0 && i < n && well {
-        let o = write_once(rt, &out[i..n]);
-        i += count_of(o);
-        well = !has_failed(o);
-        tries -= 1;
-    }
-    i == n
+    Err(Failed)
 }
 
-// Says the first octets of a text, n of them, on standard error. Where that fails nobody is left to be told.
-pub fn say(rt: &impl Host, text: &[u8], n: usize) {
-    rt.tell(held(text, 0, n));
+// Says a text on standard error: `tell` as a function, which docs/PROMISES.md names beside `send` and `fetch`.
+pub fn say(rt: &impl Host, text: &[u8]) {
+    rt.tell(text);
 }
 
 // What a buffer holds from one place to another; nothing where the places do not lie in it.
 #[tactic(auto, unfolding(memory::specs::Room::kept_of))]
-pub fn held<'a>(buf: &'a [u8], from: usize, to: usize) -> &'a [u8]
+pub fn held(buf: &[u8], from: usize, to: usize) -> &[u8]
     ensures { result.now ≡ kept_of from to buf.now }
 {
-    if from > to {
-        return &buf[0..0];
-    }
-    if to > buf.len() {
-        return &buf[0..0];
-    }
-    &buf[from..to]
+    buf.get(from..to).unwrap_or(&[])
 }
 
 // One read, after the octets that the buffer holds.
-fn read_once(rt: &impl Host, buf: &mut [u8], left: usize) -> Outcome
+fn read_once(rt: &impl Host, buf: &mut [u8], left: usize) -> Result<Option<usize>, Failed>
     ensures { ReadAfter left buf.old buf.new (count_of result) }
 {
     if left >= buf.len() {
-        return Outcome::Count(0);
+        return Ok(Some(0));
     }
-    let part = &mut buf[left..];
-    let mut input = rt.reader();
-    let got = input.read(part);
+    let got = rt.reader().read(&mut buf[left..]);
     outcome_of(rt, got, "read failed")
 }
 
-// Reads there until something comes, the input ends, or a read fails.
-fn read_after(rt: &impl Host, buf: &mut [u8], left: usize) -> Outcome
-    ensures { ReadAfter left buf.old buf.new (count_of result) }
+// Reads there until something comes, the input ends, or a read fails. The tries are counted, as in `send`.
+fn read_after(rt: &impl Host, buf: &mut [u8], left: usize) -> Result<usize, Failed>
+    ensures { MatchResult result (λ n. ReadAfter left buf.old buf.new n) (λ _. ReadAfter left buf.old buf.new 0) }
 {
-    let mut o = Outcome::Again;
-    let mut turns = u64::MAX;
-    while turns > 0 && is_open(o) {
-        o = read_once(rt, buf, left);
-        turns -= 1;
+    for _ in 0..u64::MAX {
+        if let Some(n) = read_once(rt, buf, left)? {
+            return Ok(n);
+        }
     }
-    o
+    Ok(0)
 }
 
 // What is held goes to the buffer's front, and more is read after it. Nothing comes at the end of the input, after a
@@ -118,11 +110,14 @@ pub fn fetch(rt: &impl Host, buf: &mut [u8], from: usize, to: usize) -> Fetched
     ensures { Refilled from to buf.old buf.new result }
 {
     let left = keep(buf, from, to);
-    let o = read_after(rt, buf, left);
-    let got = count_of(o);
-    Fetched {
-        to: left + got,
-        came: got > 0,
-        failed: has_failed(o),
+    match read_after(rt, buf, left) {
+        Ok(n) => Fetched {
+            to: left + n,
+            came: Ok(n > 0),
+        },
+        Err(failed) => Fetched {
+            to: left,
+            came: Err(failed),
+        },
     }
 }

@@ -4,131 +4,63 @@
 
 use call::Call;
 use memory::end_of;
-use streams::{Host, fetch, held, say, send};
+use streams::{Failed, Host, fetch, held, say, send};
 use trace::Fault;
 use trace_lines::notices::write_first;
 use trace_lines::words::write_words;
 use trace_run::work_off;
 
-// The octets of the trace that the buffer holds, from one place to another, and the calls. records and octets: how many
-// came before these. last: nothing more comes after them. more: the run goes on.
-#[derive(Clone, Copy)]
-struct Held {
-    calls: [Call; 32],
-    from: usize,
-    to: usize,
-    records: u64,
-    octets: u64,
-    last: bool,
-    more: bool,
-}
-
-// What is held goes to the buffer's front, and more is read after it. Where nothing comes, what is held is the last,
-// and where it was the last already, nothing more is read and the run ends. It ends after a read that failed too: what
-// is held may be the front of a sound record.
-fn refill(rt: &impl Host, buf: &mut [u8], h: Held) -> Held {
-    let calls = h.calls;
-    if h.last {
-        return Held {
-            calls: calls,
-            from: h.from,
-            to: h.to,
-            records: h.records,
-            octets: h.octets,
-            last: true,
-            more: false,
-        };
-    }
-    let f = fetch(rt, buf, h.from, h.to);
-    Held {
-        calls: calls,
-        from: 0,
-        to: f.to,
-        records: h.records,
-        octets: h.octets,
-        last: !f.came,
-        more: !f.failed,
-    }
-}
-
-// Whether the run goes on. Where a fault ended it, that is said of the record after so many records and octets; where
-// the lines did not go out, it was said why, and no more is.
-fn told(rt: &impl Host, sent: bool, end: Option<Fault>, records: u64, octets: u64) -> bool {
-    if !sent {
-        return false;
-    }
-    match end {
-        None => true,
-        Some(f) => {
-            complain(rt, f, records.wrapping_add(1), octets);
-            false
-        }
-    }
-}
-
+// A line is written into a buffer from a place on, as `Written` says it of every writer, and sent from there.
 fn complain(rt: &impl Host, f: Fault, number: u64, octet: u64) {
     let mut line = [0u8; 100];
     let n = end_of(write_words(&mut line, 0, number, octet, f));
-    say(rt, &line, n);
+    say(rt, held(&line, 0, n));
 }
 
-// Prints what can be printed of what is held, or reads more.
-fn turn(rt: &impl Host, buf: &mut [u8], out: &mut [u8], explained: bool, h: Held) -> Held {
-    let before = h.calls;
-    let w = work_off(before, held(buf, h.from, h.to), h.last, explained, out);
-    let wrote = w.wrote;
-    if wrote == 0 {
-        return refill(rt, buf, h);
-    }
-    let sent = send(rt, out, wrote);
-    let records = h.records.wrapping_add(w.records as u64);
-    let octets = h.octets.wrapping_add(w.used as u64);
-    let calls = w.calls;
-    let end = w.end;
-    let open = told(rt, sent, end, records, octets);
-    Held {
-        calls: calls,
-        from: h.from.wrapping_add(w.used),
-        to: h.to,
-        records: records,
-        octets: octets,
-        last: h.last,
-        more: open,
-    }
-}
-
-fn step(
-    rt: &impl Host,
-    buf: &mut [u8; 131072],
-    out: &mut [u8; 131072],
-    explained: bool,
-    h: Held,
-) -> Held {
-    turn(rt, buf, out, explained, h)
-}
-
-fn first(rt: &impl Host, out: &mut [u8; 131072], explained: bool) -> bool {
-    let n = end_of(write_first(out, 0, explained));
-    send(rt, out, n)
-}
-
-// 32 places, all fresh.
-pub fn run(rt: &impl Host, explained: bool) {
-    let fresh = Call::fresh();
+// Prints the trace from its start to its end, or to a fault, of which it is said what it is. Nothing more is read or
+// written after a read that failed, when what is held may be the front of a sound record, nor after a write that did.
+fn print(rt: &impl Host, explained: bool) -> Result<(), Failed> {
     let mut buf = [0u8; 131072];
     let mut out = [0u8; 131072];
-    let mut h = Held {
-        calls: [fresh; 32],
-        from: 0,
-        to: 0,
-        records: 0,
-        octets: 0,
-        last: false,
-        more: first(rt, &mut out, explained),
-    };
-    let mut turns = u64::MAX;
-    while turns > 0 && h.more {
-        h = step(rt, &mut buf, &mut out, explained, h);
-        turns -= 1;
+    let first = end_of(write_first(&mut out, 0, explained));
+    send(rt, held(&out, 0, first))?;
+    // 32 places, all fresh.
+    let mut calls = [Call::fresh(); 32];
+    // What of the trace is in the buffer and not worked off yet, from one place to another, whether nothing comes after
+    // it, and how many records and octets came before it.
+    let mut from: usize = 0;
+    let mut to: usize = 0;
+    let mut last = false;
+    let mut records: u64 = 0;
+    let mut octets: u64 = 0;
+    // The trace is read to its end. A loop has to be seen to end, so its turns are counted.
+    for _ in 0..u64::MAX {
+        let done = work_off(calls, held(&buf, from, to), last, explained, &mut out);
+        if done.wrote > 0 {
+            send(rt, held(&out, 0, done.wrote))?;
+            calls = done.calls;
+            from = from.wrapping_add(done.used);
+            records = records.wrapping_add(done.records as u64);
+            octets = octets.wrapping_add(done.used as u64);
+            if let Some(fault) = done.end {
+                complain(rt, fault, records.wrapping_add(1), octets);
+                return Ok(());
+            }
+        } else if last {
+            return Ok(());
+        } else {
+            let fetched = fetch(rt, &mut buf, from, to);
+            from = 0;
+            to = fetched.to;
+            last = !fetched.came?;
+        }
     }
+    Ok(())
+}
+
+// Prints what `replay` prints of a trace, or, explained, `explain`. It is a flag all the way down, since the
+// definitions of the lines (`first_line`, `line_of`, `lines`) take one.
+pub fn run(rt: &impl Host, explained: bool) {
+    // Where a read or a write failed, that was said.
+    let _ = print(rt, explained);
 }
