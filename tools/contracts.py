@@ -17,7 +17,8 @@ INTRODUCTION = """\
 
 This page is made from the sources by `python3 tools/contracts.py`: change them, and not this page. Of each of the first
 six forms `crates/demands/specs/OneReply.antt` says, and `crates/demands/proofs/OneReply.antt` proves, that two replies
-to one input are the same, and what is lent too. No public function has a `requires`.
+to one input are the same, and what is lent too. No public function has a `requires`, but for those that take a
+function: they ask that it may be called.
 """
 
 # a form, the head of its contract, and what it says
@@ -28,6 +29,7 @@ FORMS = (
     ("Spells", "Spells", "A piece of text is read as octets into lent memory, as far as it goes."),
     ("Digested", "Digested", "A piece of a capture is printed into lent memory, as far as it goes."),
     ("WorkedOff", "WorkedOff", "A piece of a trace is worked off at a lent table and printed into lent memory."),
+    ("Mapped", "F.post", "Each part of the result is what the function that was handed over makes of the part."),
     ("Refilled", "Refilled", "What was held stands in front of what was read; what was read is the world's, and not said."),
     ("None", "", "What is printed, and a program's whole run, are the world's: nothing is said of them."),
 )
@@ -61,6 +63,8 @@ def form_of(head):
     for form, word, _ in FORMS:
         if word and first == word:
             return form
+    if first == "Some":  # of what is always there: `Some result` is a definition's value
+        first = promise[1].split()[1]
     if first.split(".")[0] == "result" or first.endswith(".new"):
         return "Value"
     raise SystemExit(f"a contract of no form: {promise[1]}")
@@ -73,7 +77,7 @@ def main():
             continue
         for file in sorted((crate / "src").rglob("*.rt")):
             for name, head in heads(file):
-                if "requires" in head:
+                if "requires" in head and "requires { F.IsAlwaysCallable f }" not in head:
                     raise SystemExit(f"{crate.name}: {name} has a requires")
                 found[form_of(head)].setdefault(crate.name, []).append(name)
     lines = [INTRODUCTION]
