@@ -1,7 +1,7 @@
 #!/usr/bin/env python3
 """Makes the lower part of docs/CRATES.md: every crate with its modules, part by part.
 
-The parts and their crates are the rows of the table under "The house" in README.md; the crates must be those of
+The parts and their crates are the items of the list under "The house" in README.md; the crates must be those of
 crates.txt. What is said of a crate or a module is the first sentence of the comment on top of its file. What stands in
 docs/CRATES.md above the mark is written by hand and kept.
 """
@@ -22,10 +22,10 @@ def listed():
 
 
 def parts():
-    """The parts of the house, each with what it has and its crates, from the table of README.md."""
+    """The parts of the house, each with what it has and its crates, from the list in README.md."""
     house = (ROOT / "README.md").read_text().split("\n## The house\n")[1].split("\n## ")[0]
-    rows = [line.strip("|").split("|") for line in house.splitlines() if line.startswith("|")]
-    return [(name.strip(), has.strip(), re.findall(r"`(\w+)`", crates)) for name, crates, has in rows[2:]]
+    rows = re.findall(r"^- \*\*(.+?)\.\*\* (.*?): ((?:`\w+`[ \n]*)+)\.", re.sub(r"\n  ", " ", house), re.M)
+    return [(name, has.strip(), re.findall(r"`(\w+)`", crates)) for name, has, crates in rows]
 
 
 def said(path):
