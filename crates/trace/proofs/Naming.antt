@@ -1,13 +1,11 @@
 -- A record of a known kind.
-use Rattle.std.specs.Prelude.{Some, None, Ok, Err}
-use Prim.Native.Nat.{ℕ, ◌<◌, ◌≤◌}
+use Rattle.std.specs.Prelude.{Some, None, Ok}
+use Prim.Native.Nat.{ℕ, ◌≤◌}
 use mathlib.Core.List.{List}
 use mathlib.Core.Path.{◌≡◌}
-use borrow.Author.Tests.{lt-ltb, le-ltb}
+use borrow.Author.Tests.{le-ltb}
 use lib.ListN.{length}
 use Rattle.trace.specs.declared.kind.RecordKind.{RecordKind}
-use Rattle.trace.specs.declared.Fault.{Fault}
-use Rattle.trace.specs.declared.Field.{Field}
 use Rattle.trace.specs.Kind.{layout_of, size_of}
 use Rattle.trace.specs.Ranges.{first_out_of}
 use Rattle.trace.specs.Reading.{entry_of, named_of}

@@ -2,7 +2,7 @@
 use Prim.Native.Nat.{◌≤◌}
 use native.Mathlib.Omega.{arith}
 use Rattle.trace.specs.declared.kind.RecordKind.{RecordKind}
-use Rattle.trace.specs.Kind.{layout_of, size_of}
+use Rattle.trace.specs.Kind.{size_of}
 
 -- how long a record is at the least
 pub least : (k : RecordKind) → 3 ≤ size_of k

@@ -1,5 +1,5 @@
 -- A record at the front of a trace.
-use Rattle.std.specs.Prelude.{Option, Some, None, Result, Ok, Err, ℕ, ◌+◌, ◌*◌, List, [], false, cond, length, get_or, ltb, eqb}
+use Rattle.std.specs.Prelude.{Option, Some, None, Result, Ok, Err, ℕ, ◌+◌, ◌*◌, List, false, cond, length, get_or, ltb, eqb}
 use Rattle.trace.specs.declared.Field.{Field}
 use Rattle.services.specs.declared.ByService.{ByService}
 use Rattle.services.specs.declared.Request.{Request}
@@ -58,8 +58,25 @@ event_of RecordKind.Disconnect l t = Event.Disconnect (side_of (octet_in l.side 
 event_of RecordKind.ReleaseComplete l t = Event.ReleaseComplete (side_of (octet_in l.side 0 t))
 event_of RecordKind.Tick l t = Event.Tick
 
+-- where the octets of an element begin whose field stands at a place, and how many there are: they follow their number,
+-- and a kind without the field has none
+abbrev pub begin_of : Option ℕ → ℕ
+begin_of None = 1
+begin_of (Some p) = p + 1
+
+abbrev pub count_of : Option ℕ → List ℕ → ℕ
+count_of None t = 0
+count_of (Some p) t = get_or t p 0
+
 unfoldable pub entry_of : RecordKind → List ℕ → Entry
-entry_of k t = record { kind = k; reference = record_reference_of t; event = event_of k (layout_of k) t }
+entry_of k t =
+    record {
+      kind = k;
+      reference = record_reference_of t;
+      event = event_of k (layout_of k) t;
+      at = begin_of (layout_of k).element;
+      count = count_of (layout_of k).element t;
+    }
 
 -- a record that is all there
 abbrev pub whole_of : Option Field → Entry → Option (Result Entry Fault)
@@ -76,11 +93,6 @@ named_of (Some k) t =
 unfoldable pub record_of : List ℕ → Option (Result Entry Fault)
 record_of t = cond (eqb (length t) 0) None (named_of (record_kind_of (get_or t 0 0)) t)
 
--- the octets of an element field at a place: they follow their number; a kind without such a field has none
-abbrev pub part_of : Option ℕ → List ℕ → List ℕ
-part_of None t = []
-part_of (Some p) t = stretch_of (p + 1) (get_or t p 0) t
-
 -- the element's octets, as the part of the trace that they are
 unfoldable pub element_of : Entry → List ℕ → List ℕ
-element_of e t = part_of (layout_of e.kind).element t
+element_of e t = stretch_of e.at e.count t

@@ -2,7 +2,7 @@
 #![tactic(auto)]
 
 ghost use Rattle.std.specs.Prelude.{◌≡◌, Some};
-ghost use Rattle.trace.specs.Reading.{record_reference_of, rights_of, named_of, three_said, event_of, entry_of, record_of, element_of};
+ghost use Rattle.trace.specs.Reading.{record_reference_of, rights_of, named_of, three_said, event_of, count_of, entry_of, record_of, element_of};
 
 use crate::kind::{Layout, RecordKind, layout_of, size};
 use crate::ranges::first_out;
@@ -40,12 +40,15 @@ pub enum Fault {
     Range(Field),
 }
 
-// A record that is whole and in range: its event, without the element.
+// A record that is whole and in range: its event, without the element. at: where the element's octets begin in the
+// record; count: how many there are, 0 for absent: who keeps an entry knows both when the record is gone.
 #[derive(Clone, Copy)]
 pub struct Entry {
     pub kind: RecordKind,
     pub reference: u16,
     pub event: Event,
+    pub at: usize,
+    pub count: usize,
 }
 
 #[tactic(auto, unfolding(crate::specs::Reading::record_reference_of))]
@@ -118,14 +121,27 @@ fn event(k: RecordKind, l: Layout, t: &[u8]) -> Event
     }
 }
 
+// How many octets the element has whose field stands at a place.
+fn count(t: &[u8], place: Option<usize>) -> usize
+    ensures { result ≡ count_of place t.now }
+{
+    match place {
+        Some(p) => usize::from(octet_at(t, p, 0)),
+        None => 0,
+    }
+}
+
 #[tactic(auto, unfolding(crate::specs::Reading::entry_of))]
 fn taken(kind: RecordKind, t: &[u8]) -> Entry
     ensures { result ≡ entry_of kind t.now }
 {
+    let l = layout_of(kind);
     Entry {
         kind,
         reference: reference(t),
-        event: event(kind, layout_of(kind), t),
+        event: event(kind, l, t),
+        at: l.element.unwrap_or(0) + 1,
+        count: count(t, l.element),
     }
 }
 
@@ -155,8 +171,5 @@ pub fn read_record(t: &[u8]) -> Option<Result<Entry, Fault>>
 pub fn element(t: &[u8], e: Entry) -> &[u8]
     ensures { result.now ≡ element_of e t.now }
 {
-    match layout_of(e.kind).element {
-        Some(p) => stretch(t, p + 1, usize::from(octet_at(t, p, 0))),
-        None => &[],
-    }
+    stretch(t, e.at, e.count)
 }

@@ -7,8 +7,8 @@ use mathlib.Core.Bool.{Bool, true, false, cond}
 use mathlib.Core.Path.{◌≡◌, refl, sym, ◌∙◌}
 use native.Mathlib.Omega.{arith}
 use borrow.Author.Tests.{le-leb, le-ltb, ltb-false, ltb-true, ne_eqb}
-use lib.Dec.{ltb}
-use lib.ListN.{length, get_or, drop, length-append, length-drop, get_or-append}
+use lib.Dec.{leb, ltb}
+use lib.ListN.{length, get_or, take, drop, length-append, length-drop, get_or-append}
 use lib.Seq.{take-append-le, drop-append-le}
 use Rattle.rights.specs.declared.Service.{Service}
 use Rattle.trace.specs.declared.kind.RecordKind.{RecordKind}
@@ -19,7 +19,7 @@ use Rattle.trace.specs.declared.kind.Layout.{Layout}
 use Rattle.trace.specs.Kind.{record_kind_of, layout_of, size_of}
 use Rattle.trace.specs.ElementField.{form_fits_of, zeros_fit_of}
 use Rattle.trace.specs.Ranges.{up_to_of, three_of, element_out_of, first_out_of}
-use Rattle.trace.specs.Reading.{record_reference_of, rights_of, requests_of, answers_of, event_of, entry_of, part_of, whole_of, named_of, record_of, element_of}
+use Rattle.trace.specs.Reading.{record_reference_of, rights_of, requests_of, answers_of, event_of, begin_of, count_of, entry_of, whole_of, named_of, record_of, element_of}
 use Rattle.memory.specs.Stretch.{stretch_of}
 use Rattle.trace_promises.specs.Records as records
 use Rattle.trace_promises.specs.Records.{FieldsInRange}
@@ -157,9 +157,19 @@ module _ (t more : List ℕ) where
   same_event RecordKind.ReleaseComplete h = rw (same 3 (omega arith))
   same_event RecordKind.Tick h = refl
 
+  same_count : (k : RecordKind) → size_of k ≤ length t → count_of (layout_of k).element (t ++ more) ≡ count_of (layout_of k).element t
+  same_count RecordKind.Setup h = same 12 (omega arith)
+  same_count RecordKind.Alerting h = same 6 (omega arith)
+  same_count RecordKind.Connect h = same 6 (omega arith)
+  same_count RecordKind.Information h = same 4 (omega arith)
+  same_count RecordKind.Facility h = refl
+  same_count RecordKind.Disconnect h = same 8 (omega arith)
+  same_count RecordKind.ReleaseComplete h = refl
+  same_count RecordKind.Tick h = refl
+
   same_entry : (k : RecordKind) → size_of k ≤ length t → entry_of k (t ++ more) ≡ entry_of k t
   unfolding entry_of
-  same_entry k h = rw (same_reference (omega (arith, least k)), same_event k h)
+  same_entry k h = rw (same_reference (omega (arith, least k)), same_event k h, same_count k h)
 
   kind_stays : (k : RecordKind) (a : Bool) → ltb (length t) (size_of k) ≡ a → Stays (cond a (Some (Err Fault.Short)) (whole_of (first_out_of (layout_of k) t) (entry_of k t))) → named_of (Some k) (t ++ more) ≡ named_of (Some k) t
   kind_stays k true e s = absurd s
@@ -257,11 +267,14 @@ within_it RecordKind.Disconnect t h r p e = held_at t 8 p (some_same e) (omega a
 within_it RecordKind.ReleaseComplete t h r p e = cc
 within_it RecordKind.Tick t h r p e = cc
 
-same_part : (t more : List ℕ) (place : Option ℕ) → ((p : ℕ) → place ≡ Some p → Held t p) → part_of place (t ++ more) ≡ part_of place t
-same_part t more None h = refl
-same_part t more (Some p) h =
-    let w = h p refl in
-    rw (same t more p w.number) (same_stretch t more (p + 1) (get_or t p 0) w.part)
+-- no octets, from wherever they would be
+pub no_octets : (b : Bool) (t : List ℕ) → cond b (take 0 t) [] ≡ []
+no_octets false t = refl
+no_octets true t = refl
+
+same_part : (t more : List ℕ) (place : Option ℕ) → ((p : ℕ) → place ≡ Some p → Held t p) → stretch_of (begin_of place) (count_of place t) (t ++ more) ≡ stretch_of (begin_of place) (count_of place t) t
+same_part t more None h = no_octets (leb 1 (length (t ++ more))) (drop 1 (t ++ more)) ∙ sym (no_octets (leb 1 (length t)) (drop 1 t))
+same_part t more (Some p) h = same_stretch t more (p + 1) (get_or t p 0) (h p refl).part
 
 pub same_element : (t more : List ℕ) (e : Entry) → Whole t e → element_of e (t ++ more) ≡ element_of e t
 unfolding element_of entry_of

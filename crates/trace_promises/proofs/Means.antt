@@ -7,7 +7,7 @@ use mathlib.Core.Path.{◌≡◌, refl, ap, ◌∙◌}
 use native.Mathlib.Nat.{add-zero}
 use native.Mathlib.Omega.{arith}
 use borrow.Author.Tests.{eqb-true, le-leb}
-use lib.Dec.{eqb}
+use lib.Dec.{leb, eqb}
 use lib.ListN.{length, get_or, take, drop}
 use Rattle.logic.proofs.Decide.{by_cond}
 use Rattle.memory.specs.Stretch.{stretch_of}
@@ -15,11 +15,11 @@ use Rattle.trace.specs.declared.kind.RecordKind.{RecordKind}
 use Rattle.trace.specs.declared.Entry.{Entry}
 use Rattle.trace.specs.Kind.{record_kind_of, layout_of, size_of}
 use Rattle.trace.specs.Values.{flag_of, side_of, request_of, given_of, what_of}
-use Rattle.trace.specs.Reading.{record_reference_of, rights_of, requests_of, answers_of, event_of, entry_of, part_of, element_of}
+use Rattle.trace.specs.Reading.{record_reference_of, rights_of, requests_of, answers_of, event_of, begin_of, count_of, entry_of, element_of}
 use Rattle.trace_promises.specs.Records.{Three, FieldsInRange}
 use Rattle.trace_promises.specs.Means.{kind_number, Kinds, FlagIs, SideIs, RequestIs, AnswerIs, WhatIs, RightsIn, RequestsAt, AnswersAt, Says, Meant, Means, element_at}
 use Rattle.trace_promises.proofs.Ranged.{in_range_lem}
-use Rattle.trace_promises.proofs.Fronts.{Whole, Held, within_it}
+use Rattle.trace_promises.proofs.Fronts.{Whole, Held, within_it, no_octets}
 use Rattle.trace_promises.proofs.Making.{taken, none_left}
 
 -- ---- kinds
@@ -122,8 +122,8 @@ module _ (t : List ℕ) where
   element_in None = []
   element_in (Some p) = element_at p t
 
-  part_at : (place : Option ℕ) → ((p : ℕ) → place ≡ Some p → Held t p) → part_of place t ≡ element_in place
-  part_at None h = refl
+  part_at : (place : Option ℕ) → ((p : ℕ) → place ≡ Some p → Held t p) → stretch_of (begin_of place) (count_of place t) t ≡ element_in place
+  part_at None h = no_octets (leb 1 (length t)) (drop 1 t)
   part_at (Some p) h = part_is (p + 1) (get_or t p 0) (h p refl).part
 
   pub element_is : (k : RecordKind) → size_of k ≤ length t → FieldsInRange k t → element_of (entry_of k t) t ≡ element_in (layout_of k).element

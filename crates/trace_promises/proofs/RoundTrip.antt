@@ -18,11 +18,12 @@ use Rattle.services.specs.declared.Request.{Request}
 use Rattle.trace.specs.declared.kind.RecordKind.{RecordKind}
 use Rattle.trace.specs.Kind.{record_kind_of, layout_of, size_of}
 use Rattle.trace.specs.Values.{flag_octet, side_octet, request_octet, given_octet, what_octet, flag_back, side_back, request_back, given_back, what_back}
-use Rattle.trace.specs.Reading.{record_reference_of, rights_of, requests_of, answers_of, event_of, entry_of, part_of, record_of, element_of}
+use Rattle.trace.specs.Reading.{record_reference_of, rights_of, requests_of, answers_of, event_of, entry_of, record_of, element_of}
 use Rattle.recorder.specs.Writing.{field_octets, kind_for, head_octets, record_octets, record_fits_of}
 use Rattle.trace_promises.specs.Records.{Zeros, HoldsElement, Field, FieldsInRange}
 use Rattle.trace_promises.specs.RoundTrip.{Again, Fitting}
 use Rattle.logic.proofs.Tests.{both}
+use Rattle.memory.specs.Stretch.{stretch_of}
 use Rattle.user_element.specs.Writable.{element_fits_of, UserElement}
 use Rattle.user_element.proofs.writable.Whole.{element_in_lem, element_small}
 use Rattle.recorder.proofs.Sizing.{field_is}
@@ -114,7 +115,7 @@ module _ (h u rest : List ℕ) (fit : element_fits_of u ≡ true) where
     after = rw count_is zeros;
   }
 
-  pub element_back : part_of (Some (length h)) text ≡ u
+  pub element_back : stretch_of (length h + 1) (get_or text (length h) 0) text ≡ u
   unfolding field_octets
   element_back =
       let s = element_small u fit in
@@ -146,7 +147,7 @@ bare_back r e k u t a l s i b d p z =
         taken = whole k t a l s i;
         reference = b;
         event = d;
-        element = rw (nothing_is u (eqb-true (length u) 0 z), p) refl;
+        element = rw (nothing_is u (eqb-true (length u) 0 z), p, le-leb (1 + 0) (length t) (omega arith)) refl;
       };
     }
 
