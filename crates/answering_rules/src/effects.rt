@@ -46,33 +46,51 @@ fn failure(f: Fate) -> bool
     matches!(f, Fate::Failed)
 }
 
+// What a function makes of the fate of each service. It asks that the function may be called, so it is not public.
+fn map<U, F: Fn(Fate) -> U>(f: ByService<Fate>, rule: F) -> ByService<U>
+    requires { F.IsAlwaysCallable rule }
+    ensures one { F.post rule f.one result.one }
+    ensures two { F.post rule f.two result.two }
+    ensures three { F.post rule f.three result.three }
+{
+    ByService {
+        one: rule(f.one),
+        two: rule(f.two),
+        three: rule(f.three),
+    }
+}
+
 // Whether a required service failed, which clears the call.
 #[tactic(auto, unfolding(crate::specs::Effects::failed_of))]
 pub fn failed(f: ByService<Fate>) -> bool
     ensures { result ≡ failed_of f }
 {
-    f.map(failure).any()
+    map(f, failure).any()
 }
 
 #[tactic(auto, unfolding(crate::specs::Effects::settles_of))]
 pub fn settles(s: ByService<Standing>, f: ByService<Fate>) -> ByService<Standing>
     ensures { result ≡ settles_of s f }
 {
-    s.zip_with(f, settled)
+    ByService {
+        one: settled(s.one, f.one),
+        two: settled(s.two, f.two),
+        three: settled(s.three, f.three),
+    }
 }
 
 #[tactic(auto, unfolding(crate::specs::Effects::tells_of))]
 pub fn tells(f: ByService<Fate>) -> ByService<Said>
     ensures { result ≡ tells_of f }
 {
-    f.map(told)
+    map(f, told)
 }
 
 #[tactic(auto, unfolding(crate::specs::Effects::declines_of))]
 pub fn declines(f: ByService<Fate>) -> ByService<Said>
     ensures { result ≡ declines_of f }
 {
-    f.map(declined)
+    map(f, declined)
 }
 
 // Service 3 comes into force where it is accepted.

@@ -22,12 +22,24 @@ pub fn spent(m: BySide<Meter>, side: Side, p: Passage) -> BySide<Meter>
     m.with(side, m.of(side).after(p))
 }
 
+// What a function makes of each side's meter. It asks that the function may be called, so it is not public.
+fn map<F: Fn(Meter) -> Meter>(m: BySide<Meter>, f: F) -> BySide<Meter>
+    requires { F.IsAlwaysCallable f }
+    ensures calling { F.post f m.calling result.calling }
+    ensures called { F.post f m.called result.called }
+{
+    BySide {
+        calling: f(m.calling),
+        called: f(m.called),
+    }
+}
+
 // Service 3 comes into force: each direction has the whole burst.
 #[tactic(auto, unfolding(crate::specs::CallMeters::grants_of))]
 pub fn grants(m: BySide<Meter>, burst: u16) -> BySide<Meter>
     ensures { result ≡ grants_of m burst }
 {
-    m.map(|own| own.granted(burst))
+    map(m, |own| own.granted(burst))
 }
 
 // `runs` says whether service 3 is in force in Active: otherwise a tick does nothing.
@@ -36,7 +48,7 @@ pub fn refills(m: BySide<Meter>, r: Rights, runs: bool) -> BySide<Meter>
     ensures { result ≡ refills_of m r runs }
 {
     if runs {
-        m.map(|own| own.ticked(r.burst, r.refill))
+        map(m, |own| own.ticked(r.burst, r.refill))
     } else {
         m
     }

@@ -51,18 +51,6 @@ impl<T: Copy> BySide<T> {
             },
         }
     }
-
-    // What a function makes of each side.
-    pub fn map<U, F: Fn(T) -> U>(self, f: F) -> BySide<U>
-        requires { F.IsAlwaysCallable f }
-        ensures calling { F.post f self.calling result.calling }
-        ensures called { F.post f self.called result.called }
-    {
-        BySide {
-            calling: f(self.calling),
-            called: f(self.called),
-        }
-    }
 }
 
 pub fn peer(side: Side) -> Side

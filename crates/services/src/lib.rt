@@ -23,34 +23,6 @@ impl<T: Copy> ByService<T> {
             three: of_each,
         }
     }
-
-    // What a function makes of each service.
-    pub fn map<U, F: Fn(T) -> U>(self, f: F) -> ByService<U>
-        requires { F.IsAlwaysCallable f }
-        ensures one { F.post f self.one result.one }
-        ensures two { F.post f self.two result.two }
-        ensures three { F.post f self.three result.three }
-    {
-        ByService {
-            one: f(self.one),
-            two: f(self.two),
-            three: f(self.three),
-        }
-    }
-
-    // What a function makes of each service and of what is beside it.
-    pub fn zip_with<V: Copy, U, F: Fn(T, V) -> U>(self, beside: ByService<V>, f: F) -> ByService<U>
-        requires { F.IsAlwaysCallable f }
-        ensures one { F.post f self.one beside.one result.one }
-        ensures two { F.post f self.two beside.two result.two }
-        ensures three { F.post f self.three beside.three result.three }
-    {
-        ByService {
-            one: f(self.one, beside.one),
-            two: f(self.two, beside.two),
-            three: f(self.three, beside.three),
-        }
-    }
 }
 
 impl ByService<bool> {

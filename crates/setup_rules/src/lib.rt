@@ -101,26 +101,45 @@ fn standings_of(rights: Rights, q: ByService<Request>, s: Seen) -> ByService<Sta
     }
 }
 
+// What a function makes of each request and of whether the service is in the rights. It asks that the function may be
+// called, so it is not public.
+fn beside<U, F: Fn(Request, bool) -> U>(
+    q: ByService<Request>,
+    had: ByService<bool>,
+    f: F,
+) -> ByService<U>
+    requires { F.IsAlwaysCallable f }
+    ensures one { F.post f q.one had.one result.one }
+    ensures two { F.post f q.two had.two result.two }
+    ensures three { F.post f q.three had.three result.three }
+{
+    ByService {
+        one: f(q.one, had.one),
+        two: f(q.two, had.two),
+        three: f(q.three, had.three),
+    }
+}
+
 // Whether the rights lack a required service.
 #[tactic(auto, unfolding(crate::specs::Requests::lacks_of))]
 fn lacks(rights: Rights, q: ByService<Request>) -> bool
     ensures { result ≡ lacks_of rights q }
 {
-    q.zip_with(had(rights), lacking).any()
+    beside(q, had(rights), lacking).any()
 }
 
 #[tactic(auto, unfolding(crate::specs::Requests::network_refusals_of))]
 fn network_refusals(rights: Rights, q: ByService<Request>) -> ByService<Said>
     ensures { result ≡ network_refusals_of rights q }
 {
-    q.zip_with(had(rights), network_refusal)
+    beside(q, had(rights), network_refusal)
 }
 
 #[tactic(auto, unfolding(crate::specs::Requests::passed_requests_of))]
 fn passed_requests(rights: Rights, q: ByService<Request>) -> ByService<Said>
     ensures { result ≡ passed_requests_of rights q }
 {
-    q.zip_with(had(rights), passed_request)
+    beside(q, had(rights), passed_request)
 }
 
 #[tactic(auto, unfolding(crate::specs::Requests::setup_phase_of))]
