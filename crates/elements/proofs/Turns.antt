@@ -19,7 +19,7 @@ use Rattle.elements.specs.Elements.{Element, Split, cut, whole, then, elements, 
 use Rattle.elements.specs.Single.{or_single}
 use Rattle.elements.specs.SoFar.{cause_seen}
 use Rattle.elements.specs.Meaning.{first_single, first_cause, first_place, components, first_three, reading_of, taken_from}
-use Rattle.elements.specs.Scan.{cause_then, listed, place_then, reading_from, Adds, taken_with, going_on, locked, way_on, Turns}
+use Rattle.elements.specs.Scan.{cause_then, listed, place_then, reading_from, Adds, taken_with, going_on, locked, way_on}
 use Rattle.elements.proofs.Splitting.{none_left}
 
 -- whether every part is there, one element at a time
@@ -62,17 +62,17 @@ unfolding reading_from first_single first_cause first_place components
 at_last h f = simp (single_end f.single, cause_end f.cause, append-nil (listed f.facility), facility_end f.facility, place_end f.user)
 
 module _ (h : Header) where
-  passes : (f : Found) (e : Element) (s : Split) → going_on h false f s ≡ going_on h true f (then e s)
+  pub past : (f : Found) (e : Element) (s : Split) → going_on h false f s ≡ going_on h true f (then e s)
   unfolding going_on counted then
-  passes f e cut = refl
-  passes f e (whole es) = refl
+  past f e cut = refl
+  past f e (whole es) = refl
 
-  locks : (f : Found) (e : Element) (s : Split) → 144 ≤ e.id → e.id < 152 → locked h f s ≡ going_on h false f (then e s)
+  pub locks : (f : Found) (e : Element) (s : Split) → 144 ≤ e.id → e.id < 152 → locked h f s ≡ going_on h false f (then e s)
   unfolding going_on counted then locked
   locks f e cut a b = refl
   locks f e (whole es) a b = simp (le-leb 144 e.id a, le-leb e.id 151 (omega arith)) (sym (at_last h f))
 
-  shifts : (f : Found) (e : Element) (s : Split) → 152 ≤ e.id → e.id < 160 → going_on h true f s ≡ going_on h false f (then e s)
+  pub shifts : (f : Found) (e : Element) (s : Split) → 152 ≤ e.id → e.id < 160 → going_on h true f s ≡ going_on h false f (then e s)
   unfolding going_on counted then
   shifts f e cut a b = refl
   shifts f e (whole es) a b =
@@ -85,37 +85,14 @@ module _ (h : Header) where
   notes f g e (whole es) a (inr b) =
       simp (le-leb 144 e.id (omega arith), lt-leb e.id 151 (omega arith), le-leb 152 e.id (omega arith), lt-leb e.id 159 (omega arith), a.same (counted false es))
 
-  holds : (f : Found) (e : Element) (s : Split) → locked h f s ≡ locked h f (then e s)
-  unfolding locked
-  holds f e s = rw (whole_then e s) refl
-
-  -- the same by how the scan goes on
-  module _ (f : Found) (e : Element) where
-    pub on_locked : Turns h Way.Locked f e Way.Locked f
-    on_locked = record { same = holds f e }
-
-    pub on_past : Turns h Way.Past f e Way.On f
-    on_past = record { same = passes f e }
-
-    pub on_lock : 144 ≤ e.id → e.id < 152 → Turns h Way.On f e Way.Locked f
-    on_lock a b = record { same = λ s. locks f e s a b }
-
-    pub on_shift : 152 ≤ e.id → e.id < 160 → Turns h Way.On f e Way.Past f
-    on_shift a b = record { same = λ s. shifts f e s a b }
-
-    pub on_note : {g : Found} → Adds h f e g → (e.id < 144) ⊎ (160 ≤ e.id) → Turns h Way.On f e Way.On g
-    on_note {g} a b = record { same = λ s. notes f g e s a b }
-
   -- the ways out
   module _ (m : List ℕ) (i : ℕ) (f : Found) where
     pub out_cut : (w : Way) → elements i 0 (drop i m) ≡ cut → Err Fault.Short ≡ way_on h w f (elements i 0 (drop i m))
     unfolding going_on locked
     out_cut Way.On c = rw c refl
     out_cut Way.Past c = rw c refl
-    out_cut Way.Locked c = rw c refl
 
     pub out_end : (w : Way) → length m ≤ i → taken_with h f ≡ way_on h w f (elements i 0 (drop i m))
     unfolding going_on locked counted
     out_end Way.On c = rw (none_left m i c) (sym (at_last h f))
     out_end Way.Past c = rw (none_left m i c) (sym (at_last h f))
-    out_end Way.Locked c = rw (none_left m i c) refl

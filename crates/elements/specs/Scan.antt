@@ -8,7 +8,7 @@ use Rattle.message_fields.specs.declared.Header.{Header}
 use Rattle.message_fields.specs.declared.Reading.{Reading}
 use Rattle.elements.specs.declared.so_far.Found.{Found}
 use Rattle.elements.specs.declared.Way.{Way}
-use Rattle.elements.specs.Elements.{Element, Split, cut, whole, then, is_whole, counted}
+use Rattle.elements.specs.Elements.{Element, Split, cut, whole, is_whole, counted}
 use Rattle.elements.specs.Single.{or_single}
 use Rattle.elements.specs.SoFar.{cause_seen}
 use Rattle.elements.specs.Meaning.{first_single, first_cause, first_place, components, first_three}
@@ -66,8 +66,3 @@ locked h f s = cond (is_whole s) (taken_with h f) (Err Fault.Short)
 abbrev pub way_on : Header → Way → Found → Split → Result Reading Fault
 way_on h Way.On f s = going_on h false f s
 way_on h Way.Past f s = going_on h true f s
-way_on h Way.Locked f s = locked h f s
-
--- the scan after the element e is v with what was found g
-pub record Turns (h : Header) (w : Way) (f : Found) (e : Element) (v : Way) (g : Found) : Type 0 where
-  pub same : (s : Split) → way_on h v g s ≡ way_on h w f (then e s)

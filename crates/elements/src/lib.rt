@@ -2,9 +2,9 @@
 #![tactic(auto)]
 
 ghost use Rattle.std.specs.Prelude.{Ok, ◌≡◌, ◌<◌, ◌≤◌, ◌+◌, length, get_or, drop};
-ghost use Rattle.elements.specs.Elements.{between, elements};
+ghost use Rattle.elements.specs.Elements.{between, elements, is_whole};
 ghost use Rattle.elements.specs.Meaning.{taken_from};
-ghost use Rattle.elements.specs.Scan.{Adds, Turns, taken_with};
+ghost use Rattle.elements.specs.Scan.{Adds, locked, taken_with};
 
 use crate::single::{first_single, single_in};
 use crate::so_far::{Found, cause_seen, first_cause, first_place, with_facility};
@@ -57,33 +57,41 @@ fn taken(h: Header, f: Found) -> Reading
     }
 }
 
-// How the scan goes on: over the next element, past it, or past all that are left, of which only the lengths count.
+// How the scan goes on: over the next element, or past it.
 #[derive(Clone, Copy)]
 enum Way {
     On,
     Past,
-    Locked,
 }
 
-// What the element of m from i to e makes of the scan.
-#[tactic(auto, using(crate::proofs::Turns::on_locked, crate::proofs::Turns::on_past, crate::proofs::Turns::on_lock, crate::proofs::Turns::on_shift, crate::proofs::Turns::on_note))]
-fn turn(h: Header, way: Way, f: Found, m: &[u8], i: usize, e: usize) -> (Way, Found)
-    requires { (i < e) × (e ≤ length m.now) × (get_or m.now i 0 < 128 → i + 2 ≤ e) }
-    ensures { Turns h way f (between m.now i e) result.0 result.1 }
+// Whether the octets from a place on have every part that they announce.
+#[tactic(auto, using(crate::proofs::Turns::whole_then, crate::proofs::Splitting::none_left))]
+fn ends_whole(m: &[u8], start: usize) -> bool
+    ensures { result ≡ is_whole (elements start 0 (drop start m.now)) }
 {
-    match way {
-        Way::Locked => (Way::Locked, f),
-        Way::Past => (Way::On, f),
-        Way::On => match m[i] {
-            0x90..=0x97 => (Way::Locked, f),
-            0x98..=0x9F => (Way::Past, f),
-            _ => (Way::On, note(h, f, m, i, e)),
-        },
+    for element in Walk::new(m, start) {
+        if element.is_err() {
+            return false;
+        }
+    }
+    true
+}
+
+// What was found, if the octets from a place on have every part that they announce.
+#[tactic(auto, unfolding(crate::specs::Scan::locked))]
+fn by_lengths(h: Header, f: Found, m: &[u8], start: usize) -> Result<Reading, Fault>
+    ensures { result ≡ locked h f (elements start 0 (drop start m.now)) }
+{
+    if ends_whole(m, start) {
+        Ok(taken(h, f))
+    } else {
+        Err(Fault::Short)
     }
 }
 
-// The elements from a place on. A locking shift ends the search; the lengths after it are still checked.
-#[tactic(auto, using(crate::proofs::Turns::at_first, crate::proofs::Turns::out_cut, crate::proofs::Turns::out_end))]
+// The elements from a place on. A locking shift ends the search; the lengths after it are still checked, in a loop of
+// their own: what was found is not carried along any more.
+#[tactic(auto, using(crate::proofs::Turns::at_first, crate::proofs::Turns::out_cut, crate::proofs::Turns::out_end, crate::proofs::Turns::past, crate::proofs::Turns::locks, crate::proofs::Turns::shifts, crate::proofs::Turns::notes))]
 pub fn scan(m: &[u8], start: usize, h: Header) -> Result<Reading, Fault>
     ensures { result ≡ taken_from h (elements start 0 (drop start m.now)) }
 {
@@ -96,7 +104,15 @@ pub fn scan(m: &[u8], start: usize, h: Header) -> Result<Reading, Fault>
     };
     for element in Walk::new(m, start) {
         let (i, e) = element?;
-        (way, f) = turn(h, way, f, m, i, e);
+        if let Way::Past = way {
+            way = Way::On;
+        } else {
+            match m[i] {
+                0x90..=0x97 => return by_lengths(h, f, m, e),
+                0x98..=0x9F => way = Way::Past,
+                _ => f = note(h, f, m, i, e),
+            }
+        }
     }
     Ok(taken(h, f))
 }
