@@ -58,7 +58,7 @@ fn write_once(rt: &impl Host, piece: &[u8]) -> Result<usize, Failed>
 // wait does better the next time.
 pub fn send(rt: &impl Host, piece: &[u8]) -> Result<(), Failed> {
     let mut rest = piece;
-    for _ in 0..u64::MAX {
+    'tries: for _ in 0..u64::MAX {
         if rest.is_empty() {
             return Ok(());
         }

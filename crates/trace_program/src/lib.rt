@@ -34,7 +34,7 @@ fn print(rt: &impl Host, explained: bool) -> Result<(), Failed> {
     let mut records: u64 = 0;
     let mut octets: u64 = 0;
     // The trace is read to its end. A loop has to be seen to end, so its turns are counted.
-    for _ in 0..u64::MAX {
+    'turns: for _ in 0..u64::MAX {
         let done = work_off(calls, held(&buf, from, to), last, explained, &mut out);
         if done.wrote > 0 {
             send(rt, held(&out, 0, done.wrote))?;
