@@ -17,8 +17,9 @@ INTRODUCTION = """\
 
 This page is made from the sources by `python3 tools/contracts.py`: change them, and not this page. Of each of the first
 six forms `crates/demands/specs/OneReply.antt` says, and `crates/demands/proofs/OneReply.antt` proves, that two replies
-to one input are the same, and what is lent too. No public function has a `requires`, but for those that take a
-function: they ask that it may be called.
+to one input are the same, and what is lent too. No public function has a `requires`. The functions of a public trait
+are listed by the contract that the trait gives them, and those that make a trait of the library's so under Given; what
+a derive writes is the library's.
 """
 
 # a form, the head of its contract, and what it says
@@ -29,28 +30,34 @@ FORMS = (
     ("Spells", "Spells", "A piece of text is read as octets into lent memory, as far as it goes."),
     ("Digested", "Digested", "A piece of a capture is printed into lent memory, as far as it goes."),
     ("WorkedOff", "WorkedOff", "A piece of a trace is worked off at a lent table and printed into lent memory."),
-    ("Mapped", "F.post", "Each part of the result is what the function that was handed over makes of the part."),
+    ("Given", "Gives", "What the library's trait promises of its function, over the definition that stands at `_gives`."),
     ("Refilled", "Refilled", "What was held stands in front of what was read; what was read is the world's, and not said."),
     ("None", "", "What is printed, and a program's whole run, are the world's: nothing is said of them."),
 )
 
 
 def heads(file):
-    """The public functions of a file: each with its type, if any, and what stands before its body."""
-    own_type, head, name = None, [], None
-    for line in file.read_text().splitlines():
-        block = re.match(r"impl(?:<.*?>)? (\w+)", line)
-        start = re.match(r"\s*pub (?:extern \"C\" )?fn (\w+)", line)
+    """The public functions of a file: each with its type or trait, if any, and what stands before its body."""
+    own_type, in_trait, gives, head, name = None, False, "", [], None
+    text = file.read_text()
+    for line in text.splitlines():
+        block = re.match(r"impl(?:<.*?>)? (?:[\w<>]+ for )?(\w+)|pub trait (\w+)", line)
         if block:
-            own_type = block[1]
+            own_type, in_trait, gives = block[1] or block[2], bool(block[2]), ""
         elif line == "}":
-            own_type = None
+            own_type, in_trait, gives = None, False, ""
+        ghost = re.match(r"    ghost \w+_gives = \{ (\w+) \};", line)
+        if ghost and re.search(rf"^pub (?:enum|struct) {own_type}\b", text, re.MULTILINE):
+            gives = ghost[1]
+        start = re.match(r"\s*pub (?:extern \"C\" )?fn (\w+)", line)
+        if in_trait or gives:
+            start = start or re.match(r"    fn (\w+)", line)
         if start:
             name, head = f"{own_type}::{start[1]}" if own_type else start[1], []
         if name:
             head.append(line)
-            if line.strip() == "{" or line.rstrip().endswith("{") and "ensures" not in line:
-                yield name, " ".join(head)
+            if line.strip() == "{" or line.endswith(";") or line.rstrip().endswith("{") and "ensures" not in line:
+                yield name, " ".join(head) + (f" ensures {{ Gives {gives} }} " if gives else "")
                 name = None
 
 
@@ -77,7 +84,7 @@ def main():
             continue
         for file in sorted((crate / "src").rglob("*.rt")):
             for name, head in heads(file):
-                if "requires" in head and "requires { F.IsAlwaysCallable f }" not in head:
+                if "requires" in head:
                     raise SystemExit(f"{crate.name}: {name} has a requires")
                 found[form_of(head)].setdefault(crate.name, []).append(name)
     lines = [INTRODUCTION]
