@@ -1,3 +1,4 @@
+pub mod InPlace
 pub mod Notices
 pub mod Items
 pub mod Line

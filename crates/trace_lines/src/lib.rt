@@ -2,6 +2,7 @@
 // and what is said of a fault.
 #![tactic(auto)]
 
+mod in_place;
 mod items;
 pub mod notices;
 pub mod report;
