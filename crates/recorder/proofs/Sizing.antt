@@ -1,6 +1,5 @@
 -- How many octets a written record has, and what fits.
-use Rattle.std.specs.Prelude.{Some}
-use Prim.Native.Nat.{ℕ, ◌+◌, ◌≤◌}
+use Prim.Native.Nat.{ℕ, ◌≤◌}
 use mathlib.Core.List.{List}
 use mathlib.Core.Bool.{Bool, true, false}
 use mathlib.Core.Path.{◌≡◌}
@@ -9,7 +8,7 @@ use borrow.Author.Tests.{eqb-true}
 use lib.ListN.{length, length-append, length-replicate}
 use Rattle.event.specs.declared.Event.{Event}
 use Rattle.trace.specs.declared.kind.RecordKind.{RecordKind}
-use Rattle.trace.specs.Kind.{layout_of, size_of}
+use Rattle.trace.specs.Kind.{size_of}
 use Rattle.logic.proofs.Tests.{both}
 use Rattle.user_element.proofs.writable.Whole.{element_small}
 use Rattle.recorder.specs.Writing.{field_octets, fielded_of, event_fits_of, tail_fits_of, record_fits_of}
@@ -27,17 +26,6 @@ longest RecordKind.Facility = omega arith
 longest RecordKind.Disconnect = omega arith
 longest RecordKind.ReleaseComplete = omega arith
 longest RecordKind.Tick = omega arith
-
--- an element field ends within the longest record
-pub field_within : (k : RecordKind) (p : ℕ) → (layout_of k).element ≡ Some p → p + 132 ≤ 144
-field_within RecordKind.Setup p e = let q : 12 ≡ p = cc in omega arith
-field_within RecordKind.Alerting p e = let q : 6 ≡ p = cc in omega arith
-field_within RecordKind.Connect p e = let q : 6 ≡ p = cc in omega arith
-field_within RecordKind.Information p e = let q : 4 ≡ p = cc in omega arith
-field_within RecordKind.Facility p e = let z : ◌≡◌ {A = ℕ} 0 1 = cc in absurd (omega arith)
-field_within RecordKind.Disconnect p e = let q : 8 ≡ p = cc in omega arith
-field_within RecordKind.ReleaseComplete p e = let z : ◌≡◌ {A = ℕ} 0 1 = cc in absurd (omega arith)
-field_within RecordKind.Tick p e = let z : ◌≡◌ {A = ℕ} 0 1 = cc in absurd (omega arith)
 
 tail_small : (has : Bool) (u : List ℕ) → tail_fits_of has u ≡ true → length u ≤ 131
 tail_small true u h = element_small u h

@@ -1,7 +1,7 @@
 // A record of a trace, written into a buffer that the caller lends, or why it is not; numbers 6 and 7.
 #![tactic(auto)]
 
-ghost use Rattle.std.specs.Prelude.{◌≡◌, ◌∷◌, ◌++◌, ◌≤◌, ◌+◌, ◌/◌, ◌%◌, Some, length, take, replicate};
+ghost use Rattle.std.specs.Prelude.{◌≡◌, ◌∷◌, ◌++◌, ◌≤◌, ◌+◌, ◌/◌, ◌%◌, Some, length, drop, replicate};
 ghost use Rattle.memory.specs.Room.{Written};
 ghost use Rattle.trace.specs.Kind.{layout_of, size_of};
 ghost use Rattle.recorder.specs.Writing.{field_octets, kind_for, set_in, three_in, rights_in, fields_in, head_as, has_element, tail_octets, fielded_of, record_octets, event_fits_of, record_fits_of};
@@ -10,7 +10,7 @@ use event::Event;
 use memory::{Bar, write_octets};
 use rights::Rights;
 use services::ByService;
-use trace::kind::{FIELD, Layout, RecordKind, layout_of, size};
+use trace::kind::{Layout, RecordKind, layout_of, size};
 use trace::values::InOctet;
 use user_element::writable::element_fits;
 
@@ -148,47 +148,44 @@ fn put_fields(o: &mut [u8], l: Layout, e: Event)
     }
 }
 
-// A record up to its element field, and zeros.
-fn begun(l: Layout, r: u16, e: Event) -> [u8; LONGEST]
-    ensures { result ≡ fields_in e l (l.octet ∷ r / 256 ∷ r % 256 ∷ replicate 141 0) }
+// A record up to its element field: the octet of kind, the reference and the fields, each put over what stood there.
+fn put_head(head: &mut [u8], l: Layout, r: u16, e: Event)
+    requires { 3 ≤ length head.old }
+    ensures { head.new ≡ fields_in e l (l.octet ∷ r / 256 ∷ r % 256 ∷ drop 3 head.old) }
 {
-    let mut record = [0u8; LONGEST];
     let [high, low] = r.to_be_bytes();
-    record[0] = l.octet;
-    record[1] = high;
-    record[2] = low;
-    put_fields(&mut record, l, e);
-    record
+    head[0] = l.octet;
+    head[1] = high;
+    head[2] = low;
+    put_fields(head, l, e);
 }
 
-// The element field: the number of octets, the octets, for which there is room, and zeros.
-#[tactic(auto, using(crate::proofs::Joining::field_written))]
-fn field_of(u: &[u8]) -> [u8; FIELD]
-    requires { length u.now ≤ 131 }
-    ensures { result ≡ field_octets u.now }
+// An element field put into zeros: the number of octets, and the octets, for which there is room.
+fn put_element(field: &mut [u8], u: &[u8])
+    requires zeros { field.old ≡ replicate 132 0 }
+    requires room { length u.now ≤ 131 }
+    ensures { field.new ≡ field_octets u.now }
 {
-    let mut field = [0u8; FIELD];
     field[0] = u.len() as u8;
-    let _ = write_octets(&mut field, 1, u);
-    field
+    let _ = write_octets(field, 1, u);
 }
 
-// A record with its element field, if its kind has one, for which there is room, and zeros up to the octets of the
-// longest.
-#[tactic(auto, using(crate::proofs::Joining::with_written, crate::proofs::Joining::without_field))]
-fn record_of(k: RecordKind, r: u16, e: Event, u: &[u8]) -> [u8; LONGEST]
-    requires { length u.now ≤ 131 }
-    ensures { take (size_of k) result ≡ head_as k r e ++ tail_octets (has_element (Some k)) u.now }
+// A record put into zeros, as many as its kind has octets, with its element field if its kind has one.
+fn put_record(octets: &mut [u8], k: RecordKind, r: u16, e: Event, u: &[u8])
+    requires zeros { octets.old ≡ replicate (size_of k) 0 }
+    requires room { length u.now ≤ 131 }
+    ensures { octets.new ≡ head_as k r e ++ tail_octets (has_element (Some k)) u.now }
 {
     let l = layout_of(k);
-    let mut record = begun(l, r, e);
-    if let Some(p) = l.element {
-        let _ = write_octets(&mut record, p, &field_of(u));
+    let (head, field) = octets.split_at_mut(l.element.unwrap_or(l.size));
+    put_head(head, l, r, e);
+    if l.element.is_some() {
+        put_element(field, u);
     }
-    record
 }
 
-// Writes a record from a place on, or no octet at all.
+// Writes a record from a place on, or no octet at all. It is laid out apart, in one array that is lent to what puts
+// each part there: given back by each, the array would be copied each time.
 #[tactic(auto, using(crate::proofs::Sizing::longest))]
 pub fn write_record(buf: &mut [u8], at: usize, r: u16, e: Event, u: &[u8]) -> Result<usize, Bar>
     ensures { Written (record_fits_of r e u.now) at (record_octets r e u.now) buf.old buf.new result }
@@ -197,6 +194,8 @@ pub fn write_record(buf: &mut [u8], at: usize, r: u16, e: Event, u: &[u8]) -> Re
         return Err(Bar::Range);
     }
     let k = kind_for(e).ok_or(Bar::Range)?;
-    let record = record_of(k, r, e, u);
-    write_octets(buf, at, &record[..size(k)])
+    let mut octets = [0u8; LONGEST];
+    let record = &mut octets[..size(k)];
+    put_record(record, k, r, e, u);
+    write_octets(buf, at, record)
 }

@@ -1,7 +1,7 @@
-use Rattle.std.proofs.Common.{rules, ◌≡◌, sym, ◌∙◌, take, Some, Err}
+use Rattle.std.proofs.Common.{rules, ◌≡◌, sym, ◌∙◌, Some, Err}
 use Rattle.memory.specs.declared.Bar.{Bar}
 use Rattle.memory.proofs.Outcome.{barred, in_range_lem}
-use Rattle.recorder.specs.Writing.{kind_for, record_octets}
+use Rattle.recorder.specs.Writing.{kind_for}
 use Rattle.recorder.proofs.Sizing.{fits_small}
 use Rattle.recorder.proofs.Joining.{of_kind, no_kind}
 use Rattle.recorder.proofs.write_record.Goals as goal
@@ -9,8 +9,8 @@ use Rattle.recorder.proofs.write_record.Goals as goal
 pub returns-then-not-record_fits : goal.returns-then-not-record_fits
 returns-then-not-record_fits c = barred (sym c.record_fits.ensures ∙ c.if-not-record_fits.true)
 
-pub record_of-record-requires : goal.record_of-record-requires
-record_of-record-requires c = fits_small c.args.r c.args.e c.args.u.now (sym c.record_fits.ensures ∙ c.if-not-record_fits.false)
+pub put_record-requires-clause-room : goal.put_record-requires-clause-room
+put_record-requires-clause-room c = fits_small c.args.r c.args.e c.args.u.now (sym c.record_fits.ensures ∙ c.if-not-record_fits.false)
 
 pub returns-in_err-k : goal.returns-in_err-k
 returns-in_err-k c =
@@ -22,6 +22,5 @@ returns-in_err-k c =
 pub returns : goal.returns
 returns c =
     let k : kind_for c.args.e ≡ Some c.in_ok-k.k = sym c.kind_for.ensures ∙ c.in_ok-k.ensures.ok_part in
-    let r : take c.size.result c.record_of-record.result ≡ record_octets c.args.r c.args.e c.args.u.now =
-    rw c.size.ensures (c.record_of-record.ensures ∙ sym (of_kind c.args.r c.args.e c.args.u.now c.in_ok-k.k k)) in
+    let r = c.put_record.ensures ∙ sym (of_kind c.args.r c.args.e c.args.u.now c.in_ok-k.k k) in
     in_range_lem (sym c.record_fits.ensures ∙ c.if-not-record_fits.false) (rw r at c.write_octets.ensures)
