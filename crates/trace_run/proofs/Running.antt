@@ -251,11 +251,12 @@ pub record Kept (p : Output) (last : Bool) (first : List Call) (c l : List ℕ) 
   pub unended : s.end ≡ None
   pub going : Goes p last first c l table out s.used s.wrote s.records
 
--- a text that was written, and one that had no room
-record Took (at : ℕ) (p l l' : List ℕ) (n : ℕ) : Type 0 where
-  fits : at + length p ≤ length l
-  end : n ≡ at + length p
-  octets : l' ≡ placed at p l
+-- a text that was written, and one that had no room; what is public of the first is cited by the proof that comes with
+-- must-fail/fault_goes_on
+pub record Took (at : ℕ) (p l l' : List ℕ) (n : ℕ) : Type 0 where
+  pub fits : at + length p ≤ length l
+  pub end : n ≡ at + length p
+  pub octets : l' ≡ placed at p l
 
 record Full (at : ℕ) (p l l' : List ℕ) : Type 0 where
   over : length l < at + length p
@@ -270,7 +271,7 @@ module _ {at : ℕ} {p l l' : List ℕ} where
   full_by true e a o = let z : ◌≡◌ {A = ℕ} 0 1 = cc in absurd (omega arith)
   full_by false e a o = record { over = leb-false _ _ e; octets = o }
 
-  took : {n : ℕ} → Written true at p l l' (Ok n) → Took at p l l' n
+  pub took : {n : ℕ} → Written true at p l l' (Ok n) → Took at p l l' n
   unfolding wrote_of left_of
   took w = took_by _ refl w.answer w.buffer
 

@@ -83,16 +83,16 @@ pub fn work_off_at(
         let rest = &piece[s.used..];
         match front_of(last, rest) {
             None => return s,
-            Some(Err(fault)) => {
-                return match write_fault(out, s.wrote, fault) {
-                    Ok(wrote) => Stand {
+            Some(Err(fault)) => match write_fault(out, s.wrote, fault) {
+                Ok(wrote) => {
+                    return Stand {
                         wrote,
                         end: Some(fault),
                         ..s
-                    },
-                    Err(_) => s,
-                };
-            }
+                    };
+                }
+                Err(_) => return s,
+            },
             Some(Ok(e)) => match record_turn(t, e, rest, explained, out, s.wrote) {
                 Ok(wrote) => {
                     s = Stand {
