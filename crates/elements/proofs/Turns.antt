@@ -96,3 +96,13 @@ module _ (h : Header) where
     unfolding going_on locked counted
     out_end Way.On c = rw (none_left m i c) (sym (at_last h f))
     out_end Way.Past c = rw (none_left m i c) (sym (at_last h f))
+
+  -- past a locking shift: every part of what is left is there, or not
+  module _ (f : Found) (s : Split) where
+    pub out_short : is_whole s ≡ false → Err Fault.Short ≡ locked h f s
+    unfolding locked
+    out_short c = rw c refl
+
+    pub out_whole : is_whole s ≡ true → taken_with h f ≡ locked h f s
+    unfolding locked
+    out_whole c = rw c refl

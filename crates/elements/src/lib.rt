@@ -78,7 +78,7 @@ fn ends_whole(m: &[u8], start: usize) -> bool
 }
 
 // What was found, if the octets from a place on have every part that they announce.
-#[tactic(auto, unfolding(crate::specs::Scan::locked))]
+#[tactic(auto, using(crate::proofs::Turns::out_short, crate::proofs::Turns::out_whole))]
 fn by_lengths(h: Header, f: Found, m: &[u8], start: usize) -> Result<Reading, Fault>
     ensures { result ≡ locked h f (elements start 0 (drop start m.now)) }
 {
